@@ -1,0 +1,96 @@
+-- Document 01's book at work: what it replies to a call, and what the call does to its two lists.
+--   Call        declare (both ways), equate with the buffer's length, withdraw, clear
+--   early       the first refusal that the two lists decide, in document 01's order; refusal 1 never applies
+--   Refusal     the number of a call's refusal, 0 where it isn't refused; 8 and 9 come from the verdict of held and offered
+--   answer      the reply, and the lists after the call
+--   Runs        the answers to a list of calls, and the state after it
+-- Assumes nothing: these are definitions.
+use mathlib.Core.Path.{_≡_}
+use mathlib.Core.Bool.{Bool, true, false, _&&_, cond}
+use mathlib.Core.List.{List, [], _∷_, _++_}
+use mathlib.Core.Option.{Option, none, some}
+use Prim.Native.Nat.{ℕ}
+use lib.ListN.{length}
+use lib.Dec.{eqb, ltb, leb}
+use Rattle.graph.specs.State.{Node, variable, functor, Equation, State, stateWith, emptyState, nameHeld, offered}
+use Rattle.graph.specs.Verdict.{Verdict}
+
+pub data Call : Type 0 where
+  declare : Node → Call
+  equate : Equation → (room : ℕ) → Call
+  withdraw : (name : ℕ) → Call
+  clear : Call
+
+-- a declared node's number, held, gone, no reply beside the workspace (clear), or a refusal's number
+pub data Reply : Type 0 where
+  number : ℕ → Reply
+  held : Reply
+  gone : Reply
+  cleared : Reply
+  refused : ℕ → Reply
+
+pub record Answer : Type 0 where
+  pub reply : Reply
+  pub state : State
+
+abbrev pub answerOf : Reply → State → Answer
+answerOf r s = record { reply = r; state = s }
+
+-- strikes the equation of that name; the rest keep their order
+abbrev pub removed : ℕ → List Equation → List Equation
+removed n [] = []
+removed n (e ∷ es) = cond (eqb (e .name) n) es (e ∷ removed n es)
+
+-- each of the numbers is below k
+abbrev pub allBelow : ℕ → List ℕ → Bool
+allBelow k [] = true
+allBelow k (c ∷ cs) = ltb c k && allBelow k cs
+
+abbrev pub childrenOf : Node → List ℕ
+childrenOf variable = []
+childrenOf (functor f cs) = cs
+
+-- document 01's limits: 64 nodes, 4 children, 256 equations, 65,536 bytes of buffer
+abbrev pub early : State → Call → Option ℕ
+early s (declare n) =
+    cond (leb 64 (length (s .nodes))) (some 2)
+    (cond (ltb 4 (length (childrenOf n))) (some 3)
+    (cond (allBelow (length (s .nodes)) (childrenOf n)) none (some 4)))
+early s (equate e room) =
+    cond (ltb room 65536) (some 5)
+    (cond (ltb (e .left) (length (s .nodes)) && ltb (e .right) (length (s .nodes)))
+    (cond (nameHeld (e .name) (s .equations)) (some 6)
+    (cond (leb 256 (length (s .equations))) (some 7) none))
+    (some 4))
+early s (withdraw n) = cond (nameHeld n (s .equations)) none (some 10)
+early s clear = none
+
+-- what the closure says of a call that the lists don't refuse
+abbrev pub Late : State → Call → ℕ → Type 0
+Late s (declare n) k = k ≡ 0
+Late s (equate e room) k = Verdict (offered s e) k
+Late s (withdraw n) k = k ≡ 0
+Late s clear k = k ≡ 0
+
+abbrev pub Else : Option ℕ → (ℕ → Type 0) → ℕ → Type 0
+Else none L k = L k
+Else (some n) L k = k ≡ n
+
+abbrev pub Refusal : State → Call → ℕ → Type 0
+Refusal s c k = Else (early s c) (Late s c) k
+
+-- what a call that isn't refused replies and does
+abbrev pub accepted : State → Call → Answer
+accepted s (declare n) = answerOf (number (length (s .nodes))) (stateWith (s .nodes ++ (n ∷ [])) (s .equations))
+accepted s (equate e room) = answerOf held (offered s e)
+accepted s (withdraw n) = answerOf gone (stateWith (s .nodes) (removed n (s .equations)))
+accepted s clear = answerOf cleared emptyState
+
+-- the answer to a call whose refusal is k: a refused call leaves the lists
+abbrev pub answer : State → Call → ℕ → Answer
+answer s c k = cond (eqb k 0) (accepted s c) (answerOf (refused k) s)
+
+pub data Runs : State → List Call → List Answer → State → Type 0 where
+  over : {s : State} → Runs s [] [] s
+  step : {s d : State} {c : Call} {cs : List Call} {rs : List Answer} (k : ℕ) → Refusal s c k
+      → Runs (answer s c k .state) cs rs d → Runs s (c ∷ cs) (answer s c k ∷ rs) d

@@ -1,0 +1,73 @@
+-- The state that every contract speaks of, and lookups in it.
+--   Node         a variable, or a functor node with its symbol and its children
+--   Equation     a name and two nodes, its left and its right end
+--   State        document 01's book: the nodes in order of declaration, the held equations in the order taken
+--   IsNode       a known node
+--   NodeAt, ChildAt, Held   what stands at a place of a list
+--   nameHeld     a name is held
+--   EqualLabels  equal labels: one symbol, and equally many children
+--   Proper       each child is an earlier node, each end of an equation a known node
+--   offered      the state with one equation more, document 01's held and offered together
+-- Assumes nothing: these are definitions.
+use mathlib.Core.Path.{_≡_}
+use mathlib.Core.Bool.{Bool, true, false, cond}
+use mathlib.Core.List.{List, [], _∷_, _++_}
+use mathlib.Core.Option.{some}
+use Prim.Native.Nat.{ℕ, _<_}
+use lib.ListN.{length, getElem?}
+use lib.Dec.{eqb}
+
+pub data Node : Type 0 where
+  variable : Node
+  functor : ℕ → List ℕ → Node
+
+pub record Equation : Type 0 where
+  pub name : ℕ
+  pub left : ℕ
+  pub right : ℕ
+
+pub record State : Type 0 where
+  pub nodes : List Node
+  pub equations : List Equation
+
+abbrev pub equationOf : ℕ → ℕ → ℕ → Equation
+equationOf n u v = record { name = n; left = u; right = v }
+
+abbrev pub stateWith : List Node → List Equation → State
+stateWith ns es = record { nodes = ns; equations = es }
+
+-- the state without nodes or equations, as a fresh workspace has it
+abbrev pub emptyState : State
+emptyState = stateWith [] []
+
+abbrev pub IsNode : State → ℕ → Type 0
+IsNode s u = u < length (s .nodes)
+
+-- node u of the state is n
+abbrev pub NodeAt : State → ℕ → Node → Type 0
+NodeAt s u n = getElem? (s .nodes) u ≡ some n
+
+-- v is the child at place i, counted from 0, among the children cs
+abbrev pub ChildAt : List ℕ → ℕ → ℕ → Type 0
+ChildAt cs i v = getElem? cs i ≡ some v
+
+-- the state holds e
+abbrev pub Held : State → Equation → Type 0
+Held s e = (i : ℕ) × (getElem? (s .equations) i ≡ some e)
+
+-- some equation has the name
+abbrev pub nameHeld : ℕ → List Equation → Bool
+nameHeld n [] = false
+nameHeld n (e ∷ es) = cond (eqb (e .name) n) true (nameHeld n es)
+
+-- a functor node's label is its symbol f together with the number of its children cs
+abbrev pub EqualLabels : ℕ → List ℕ → ℕ → List ℕ → Type 0
+EqualLabels f cs g ds = (f ≡ g) × (length cs ≡ length ds)
+
+pub record Proper (s : State) : Type 0 where
+  pub earlier : (u f i v : ℕ) (cs : List ℕ) → NodeAt s u (functor f cs) → ChildAt cs i v → v < u
+  pub left-known : (e : Equation) → Held s e → IsNode s (e .left)
+  pub right-known : (e : Equation) → Held s e → IsNode s (e .right)
+
+abbrev pub offered : State → Equation → State
+offered s e = stateWith (s .nodes) (s .equations ++ (e ∷ []))
