@@ -1,0 +1,16 @@
+-- `classes::lowest` meets its contract: the trailing zeros of the set are its lowest member.
+-- Assumes nothing.
+use native.Mathlib.Omega.{arith}
+use Rattle.classes.proofs.MemberLaws.{zeros-lowest}
+use borrow.Author.Needs.{needs}
+use Rattle.classes.proofs.lowest.Statement.{statement}
+use Rattle.classes.proofs.lowest.Tie as tie
+
+members-requires : tie.Need-members-requires
+members-requires c κs = search needs
+
+returns : tie.Need-returns
+returns c = zeros-lowest (c .before .args .table) (c .before .args .c) (c .members .ensures) (omega arith)
+
+pub lowest-spec : {M : Type 1} → statement M
+lowest-spec = tie.close (tie.spec members-requires returns)

@@ -1,0 +1,3 @@
+-- What the shape test tells, and the bit set of names.
+pub mod Tells
+pub mod Bits
