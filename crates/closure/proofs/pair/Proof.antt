@@ -1,0 +1,93 @@
+-- `closure::pair` meets its contract. Assumes nothing.
+use denote.Ref.{now}
+use Rattle.store.specs.Views.{terms}
+use Rattle.store.specs.declared.Terms.{Terms}
+use Rattle.trace.specs.Nodes.{Alike}
+use Rattle.closure.proofs.VisitLaws.{pair-clash, pair-agree}
+use native.Mathlib.Omega.{arith}
+use borrow.Author.Needs.{needs}
+use Rattle.closure.proofs.pair.Statement.{statement}
+use Rattle.closure.proofs.pair.Tie as tie
+
+mul-if1 : tie.Need-mul-if1
+mul-if1 c = search needs
+
+element-copy-out-if1 : tie.Need-element-copy-out-if1
+element-copy-out-if1 c = search needs
+
+mul-if1-2 : tie.Need-mul-if1-2
+mul-if1-2 c = search needs
+
+element-copy-out-if1-2 : tie.Need-element-copy-out-if1-2
+element-copy-out-if1-2 c = search needs
+
+returns : tie.Need-returns
+returns c = (pair-clash _ _ _ _ _ _ (c .before .before .before .pre .ready) (λ a. c .if1 .taken (omega (arith, a .0))), search needs)
+
+element-copy-out-if2 : tie.Need-element-copy-out-if2
+element-copy-out-if2 c = search needs
+
+element-copy-out-if2-2 : tie.Need-element-copy-out-if2-2
+element-copy-out-if2-2 c = search needs
+
+returns-2 : tie.Need-returns-2
+returns-2 c = (pair-clash _ _ _ _ _ _ (c .before .before .before .before .before .before .pre .ready) (λ a. c .if2 .taken (omega (arith, a .1))), search needs)
+
+element-copy-out-wide : tie.Need-element-copy-out-wide
+element-copy-out-wide c = search needs
+
+wide-requires : tie.Need-wide-requires
+wide-requires c κs = search needs
+
+-- the nodes of the arguments
+abbrev given : tie.Start → Terms
+given a = terms (a .args .n) (now (a .args .kind)) (now (a .args .symbol)) (now (a .args .arity)) (now (a .args .child))
+
+-- what the two tests leave
+alike : (c : tie.Else2) → let a = c .before .before .before .before .before .before in Alike (given a) (a .args .u) (a .args .v)
+alike c = (omega (arith, c .before .before .before .if1 .left), omega (arith, c .if2 .left))
+
+join-children-requires : tie.Need-join-children-requires
+join-children-requires c κs =
+    let e = c .before .before .before in
+    let P = e .before .before .before .before .before .before .pre in
+    let F = P .formed in
+    let places = c .wide .ensures in (
+      P .ready,
+      (
+        (
+          omega (arith, F .most, P .left .known),
+          omega (arith, F .most, P .right .known),
+          omega (arith, F .arities _ (P .left .known), places),
+          P .joined,
+        ),
+        λ k h. (
+          omega (arith, F .most, P .left .known, F .earlier _ k (P .left .known) (omega (arith, places))),
+          omega (arith, F .most, P .right .known, F .earlier _ k (P .right .known) (omega (arith, places, alike e .1))),
+        ),
+      ),
+    )
+
+returns-3 : tie.Need-returns-3
+returns-3 c =
+    let w = c .before .before in
+    let e = w .before .before .before in
+    let P = e .before .before .before .before .before .before .pre in
+    (pair-agree _ _ _ _ _ _ (P .left) (P .right) (alike e) (rw (w .wide .ensures) at (c .before .join-children .ensures)), search needs)
+
+pub pair-spec : {M : Type 1} → statement M
+pair-spec =
+    tie.close
+    (tie.spec
+    mul-if1
+    element-copy-out-if1
+    mul-if1-2
+    element-copy-out-if1-2
+    returns
+    element-copy-out-if2
+    element-copy-out-if2-2
+    returns-2
+    element-copy-out-wide
+    wide-requires
+    join-children-requires
+    returns-3)

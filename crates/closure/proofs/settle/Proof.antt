@@ -1,0 +1,33 @@
+-- `closure::settle` meets its contract: equations from the fresh table, then rounds. Assumes nothing.
+use Rattle.classes.proofs.CountLaws.{classes-most}
+use Rattle.closure.proofs.SettledLaws.{solved, ended}
+use native.Mathlib.Omega.{arith}
+use borrow.Author.Needs.{needs}
+use Rattle.closure.proofs.settle.Statement.{statement}
+use Rattle.closure.proofs.settle.Tie as tie
+
+fresh-requires : tie.Need-fresh-requires
+fresh-requires c κs = search needs
+
+join-equations-requires : tie.Need-join-equations-requires
+join-equations-requires c κs =
+    let f = c .before in
+    let A = f .before .pre .0 in (
+      record { table = f .fresh .ensures .table; size = f .before .pre .1; room = omega (arith, classes-most (f .fresh .result)) },
+      (
+        A .most,
+        λ k h. (omega (arith, A .lefts k h, A .formed .most), omega (arith, A .rights k h, A .formed .most)),
+      ),
+    )
+
+rounds-requires : tie.Need-rounds-requires
+rounds-requires c κs = search needs
+
+returns : tie.Need-returns
+returns c =
+    let j = c .before .before .before in
+    let f = j .before .before in
+    (ended (c .rounds .ensures), solved _ _ _ _ _ _ (f .before .pre .0) (f .fresh .ensures) (j .join-equations .ensures) (c .rounds .ensures))
+
+pub settle-spec : {M : Type 1} → statement M
+settle-spec = tie.close (tie.spec fresh-requires join-equations-requires rounds-requires returns)

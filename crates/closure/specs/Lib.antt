@@ -1,0 +1,3 @@
+-- What the closure's contracts cite.
+pub mod Rounds
+pub mod Settled

@@ -1,0 +1,3 @@
+-- Reachability on the classes of a table.
+pub mod Reach
+pub mod Search

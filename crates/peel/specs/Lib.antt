@@ -1,0 +1,4 @@
+-- Heights of the classes of a table.
+pub mod Nodes
+pub mod Peel
+pub mod Passes

@@ -1,0 +1,19 @@
+-- `solver::solve` meets its contract. Assumes nothing.
+use Rattle.solver.proofs.DecidedLaws.{judging}
+use borrow.Author.Needs.{needs}
+use Rattle.solver.proofs.solve.Statement.{statement}
+use Rattle.solver.proofs.solve.Tie as tie
+
+settle-requires : tie.Need-settle-requires
+settle-requires c κs = search needs
+
+judge-requires : tie.Need-judge-requires
+judge-requires c κs = judging (c .before .before .pre .0 .formed) (c .settle .ensures .0)
+
+returns : tie.Need-returns
+returns c =
+    let o = c .before in
+    λ s H. c .judge .ensures s _ (H .nodes) (o .settle .ensures .1 s H)
+
+pub solve-spec : {M : Type 1} → statement M
+solve-spec = tie.close (tie.spec settle-requires judge-requires returns)

@@ -1,0 +1,3 @@
+-- What the solver's contracts cite.
+pub mod Decided
+pub mod Judging

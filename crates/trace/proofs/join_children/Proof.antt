@@ -1,0 +1,148 @@
+-- `trace::join_children` meets its contract: after k turns the first k children are joined. Assumes nothing.
+use mathlib.Core.Logic.{⊎-elim}
+use Prim.Native.Nat.{ℕ, _+_, _*_, _≤_, _-_}
+use lib.ListN.{getD}
+use Rattle.trace.specs.Steps.{grown, Pairs, Places}
+use Rattle.trace.proofs.ReasonLaws.{entry-is}
+use Rattle.trace.proofs.StepLaws.{ready-room, pairs-none, pairs-more, pairs-skip, pairs-all}
+use native.Mathlib.Omega.{arith}
+use borrow.Author.Needs.{needs}
+use Rattle.trace.proofs.join_children.Statement.{statement}
+use Rattle.trace.proofs.join_children.Tie as tie
+
+abbrev Inv-loop : tie.InvT-loop
+Inv-loop trace₀ steps u v places child t₀ n₀ k₀ trace t n k =
+    (k ≤ places) × Pairs (Places child u v places) (λ (j : ℕ). getD child (4 * u + j) 0) (λ (j : ℕ). getD child (4 * v + j) 0) k t₀ trace₀ n₀ t trace n
+
+abbrev μ-loop : tie.MeasureT-loop
+μ-loop trace₀ steps u v places child t₀ n₀ k₀ trace t n k = places - k
+
+loop-holds : tie.Need-loop-holds Inv-loop μ-loop
+loop-holds c = (search needs, pairs-none _ _ _ _ _ _ (c .pre .0))
+
+mul-x : tie.Need-mul-x Inv-loop μ-loop
+mul-x c = search needs
+
+add-x : tie.Need-add-x Inv-loop μ-loop
+add-x c = search needs
+
+element-copy-out-x : tie.Need-element-copy-out-x Inv-loop μ-loop
+element-copy-out-x c = search needs
+
+mul-y : tie.Need-mul-y Inv-loop μ-loop
+mul-y c = search needs
+
+add-y : tie.Need-add-y Inv-loop μ-loop
+add-y c = search needs
+
+element-copy-out-y : tie.Need-element-copy-out-y Inv-loop μ-loop
+element-copy-out-y c = search needs
+
+wide-requires : tie.Need-wide-requires Inv-loop μ-loop
+wide-requires c κs = search needs
+
+array-read-if1 : tie.Need-array-read-if1 Inv-loop μ-loop
+array-read-if1 c =
+    let a = c .before .before .before .before in
+    omega (arith, c .wide .ensures, a .before .pre .1 .1 (a .loop .k) (search needs) .0)
+
+wide-requires-2 : tie.Need-wide-requires-2 Inv-loop μ-loop
+wide-requires-2 c κs = search needs
+
+array-read-if1-2 : tie.Need-array-read-if1-2 Inv-loop μ-loop
+array-read-if1-2 c =
+    let a = c .before .before .before .before .before in
+    omega (arith, c .wide2 .ensures, a .before .pre .1 .1 (a .loop .k) (search needs) .1)
+
+add-reason : tie.Need-add-reason Inv-loop μ-loop
+add-reason c = search needs
+
+mul-reason : tie.Need-mul-reason Inv-loop μ-loop
+mul-reason c = search needs
+
+mul-reason-2 : tie.Need-mul-reason-2 Inv-loop μ-loop
+mul-reason-2 c = search needs
+
+add-reason-2 : tie.Need-add-reason-2 Inv-loop μ-loop
+add-reason-2 c = search needs
+
+add-reason-3 : tie.Need-add-reason-3 Inv-loop μ-loop
+add-reason-3 c = search needs
+
+merge-requires : tie.Need-merge-requires Inv-loop μ-loop
+merge-requires c κs =
+    let a = c .before .before .before .before .before .before in
+    (a .loop .inv .1 .extends .ready .table, a .before .pre .1 .1 (a .loop .k) (search needs))
+
+cast-trace : tie.Need-cast-trace Inv-loop μ-loop
+cast-trace c = search needs
+
+mul-trace : tie.Need-mul-trace Inv-loop μ-loop
+mul-trace c = search needs
+
+element-write-trace : tie.Need-element-write-trace Inv-loop μ-loop
+element-write-trace c =
+    let a = c .before .before .before .before .before .before .before in
+    omega (arith, ready-room (a .loop .inv .1 .extends .ready))
+
+add-n : tie.Need-add-n Inv-loop μ-loop
+add-n c =
+    let a = c .before .before .before .before .before .before .before in
+    omega (arith, ready-room (a .loop .inv .1 .extends .ready))
+
+add-k : tie.Need-add-k Inv-loop μ-loop
+add-k c = search needs
+
+loop-less : tie.Need-loop-less Inv-loop μ-loop
+loop-less c = search needs
+
+loop-again : tie.Need-loop-again Inv-loop μ-loop
+loop-again c =
+    let w2 = c .before in
+    let w1 = w2 .before in
+    let a = w1 .before .before .before .before in
+    let P = a .loop .inv .1 in
+    let H = a .before .pre .1 in (
+      search needs,
+      ⊎-elim
+          (λ w. rw (w .2, w .3, w .4)
+          (pairs-more _ _ _ (a .loop .k) _ (λ j h. H .1 j (omega arith)) (λ s E. entry-is _ (omega arith) (E _ (a .loop .k) (P .extends .grows _ _ (H .0 .0) (H .0 .1) (H .0 .3)) (search needs))) P
+          (grown (rw (← w1 .wide .ensures, ← w2 .wide2 .ensures) (w .0 .taken)) (w .1 .ensures))))
+          (λ w. rw (w .1, w .2, w .3) (pairs-skip _ _ _ (a .loop .k) (rw (← w1 .wide .ensures, ← w2 .wide2 .ensures) (w .0 .left)) P))
+          (c .if1 .came),
+    )
+
+returns : tie.Need-returns Inv-loop μ-loop
+returns c = pairs-all _ _ _ _ _ (omega arith) (c .before .loop .inv .1)
+
+pub join-children-spec : {M : Type 1} → statement M
+join-children-spec =
+    tie.close
+    (tie.spec
+    Inv-loop
+    μ-loop
+    loop-holds
+    mul-x
+    add-x
+    element-copy-out-x
+    mul-y
+    add-y
+    element-copy-out-y
+    wide-requires
+    array-read-if1
+    wide-requires-2
+    array-read-if1-2
+    add-reason
+    mul-reason
+    mul-reason-2
+    add-reason-2
+    add-reason-3
+    merge-requires
+    cast-trace
+    mul-trace
+    element-write-trace
+    add-n
+    add-k
+    loop-less
+    loop-again
+    returns)

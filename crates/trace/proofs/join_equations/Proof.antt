@@ -1,0 +1,113 @@
+-- `trace::join_equations` meets its contract: after k turns the first k equations are joined. Assumes nothing.
+use mathlib.Core.Logic.{⊎-elim}
+use Prim.Native.Nat.{ℕ, _≤_, _-_}
+use lib.ListN.{getD}
+use Rattle.trace.specs.Nodes.{Ends}
+use Rattle.trace.specs.Steps.{grown, Pairs}
+use Rattle.trace.proofs.ReasonLaws.{entry-is, by-equation}
+use Rattle.trace.proofs.StepLaws.{ready-room, pairs-none, pairs-more, pairs-skip, pairs-all}
+use native.Mathlib.Omega.{arith}
+use borrow.Author.Needs.{needs}
+use Rattle.trace.proofs.join_equations.Statement.{statement}
+use Rattle.trace.proofs.join_equations.Tie as tie
+
+abbrev Inv-loop : tie.InvT-loop
+Inv-loop trace₀ steps m left right t₀ n₀ k₀ trace t n k =
+    (k ≤ m) × Pairs (Ends m left right) (λ (j : ℕ). getD left j 0) (λ (j : ℕ). getD right j 0) k t₀ trace₀ n₀ t trace n
+
+abbrev μ-loop : tie.MeasureT-loop
+μ-loop trace₀ steps m left right t₀ n₀ k₀ trace t n k = m - k
+
+loop-holds : tie.Need-loop-holds Inv-loop μ-loop
+loop-holds c = (search needs, pairs-none _ _ _ _ _ _ (c .pre .0))
+
+element-copy-out-x : tie.Need-element-copy-out-x Inv-loop μ-loop
+element-copy-out-x c = search needs
+
+element-copy-out-y : tie.Need-element-copy-out-y Inv-loop μ-loop
+element-copy-out-y c = search needs
+
+wide-requires : tie.Need-wide-requires Inv-loop μ-loop
+wide-requires c κs = search needs
+
+array-read-if1 : tie.Need-array-read-if1 Inv-loop μ-loop
+array-read-if1 c =
+    let a = c .before .before .before .before in
+    omega (arith, c .wide .ensures, a .before .pre .1 .1 (a .loop .k) (search needs) .0)
+
+wide-requires-2 : tie.Need-wide-requires-2 Inv-loop μ-loop
+wide-requires-2 c κs = search needs
+
+array-read-if1-2 : tie.Need-array-read-if1-2 Inv-loop μ-loop
+array-read-if1-2 c =
+    let a = c .before .before .before .before .before in
+    omega (arith, c .wide2 .ensures, a .before .pre .1 .1 (a .loop .k) (search needs) .1)
+
+merge-requires : tie.Need-merge-requires Inv-loop μ-loop
+merge-requires c κs =
+    let a = c .before .before .before .before .before .before in
+    (a .loop .inv .1 .extends .ready .table, a .before .pre .1 .1 (a .loop .k) (search needs))
+
+cast-trace : tie.Need-cast-trace Inv-loop μ-loop
+cast-trace c = search needs
+
+mul-trace : tie.Need-mul-trace Inv-loop μ-loop
+mul-trace c = search needs
+
+element-write-trace : tie.Need-element-write-trace Inv-loop μ-loop
+element-write-trace c =
+    let a = c .before .before .before .before .before .before .before in
+    omega (arith, ready-room (a .loop .inv .1 .extends .ready))
+
+add-n : tie.Need-add-n Inv-loop μ-loop
+add-n c =
+    let a = c .before .before .before .before .before .before .before in
+    omega (arith, ready-room (a .loop .inv .1 .extends .ready))
+
+add-k : tie.Need-add-k Inv-loop μ-loop
+add-k c = search needs
+
+loop-less : tie.Need-loop-less Inv-loop μ-loop
+loop-less c = search needs
+
+loop-again : tie.Need-loop-again Inv-loop μ-loop
+loop-again c =
+    let w2 = c .before in
+    let w1 = w2 .before in
+    let a = w1 .before .before .before .before in
+    let P = a .loop .inv .1 in
+    let H = a .before .pre .1 in (
+      search needs,
+      ⊎-elim
+          (λ w. rw (w .2, w .3, w .4)
+          (pairs-more _ _ _ (a .loop .k) _ (λ j h. H .1 j (omega arith)) (λ s E. entry-is _ (omega arith) (by-equation _ _ _ _ s (a .loop .k) (search needs) E)) P
+          (grown (rw (← w1 .wide .ensures, ← w2 .wide2 .ensures) (w .0 .taken)) (w .1 .ensures))))
+          (λ w. rw (w .1, w .2, w .3) (pairs-skip _ _ _ (a .loop .k) (rw (← w1 .wide .ensures, ← w2 .wide2 .ensures) (w .0 .left)) P))
+          (c .if1 .came),
+    )
+
+returns : tie.Need-returns Inv-loop μ-loop
+returns c = pairs-all _ _ _ _ _ (omega arith) (c .before .loop .inv .1)
+
+pub join-equations-spec : {M : Type 1} → statement M
+join-equations-spec =
+    tie.close
+    (tie.spec
+    Inv-loop
+    μ-loop
+    loop-holds
+    element-copy-out-x
+    element-copy-out-y
+    wide-requires
+    array-read-if1
+    wide-requires-2
+    array-read-if1-2
+    merge-requires
+    cast-trace
+    mul-trace
+    element-write-trace
+    add-n
+    add-k
+    loop-less
+    loop-again
+    returns)
