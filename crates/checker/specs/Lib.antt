@@ -1,0 +1,2 @@
+-- The checker's answers.
+pub mod Answers

@@ -1,0 +1,2 @@
+-- What one line claims, over lent arrays.
+pub mod Claims

@@ -1,0 +1,38 @@
+-- `lines::decode` meets its contract: the two tests are those of `decoded`. Assumes nothing.
+use mathlib.Core.Path.{_≡_}
+use native.Mathlib.Omega.{arith}
+use borrow.Author.Tests.{le-ltb, lt-ltb, eq-eqb, ne-eqb}
+use borrow.Author.Needs.{needs}
+use Rattle.lines.proofs.decode.Statement.{statement}
+use Rattle.lines.proofs.decode.Tie as tie
+
+returns : tie.Need-returns
+returns c = rw (le-ltb _ _ (c .if1 .taken))
+
+fields-at-requires : tie.Need-fields-at-requires
+fields-at-requires c κs = search needs
+
+mul-pair : tie.Need-mul-pair
+mul-pair c = search needs
+
+add-pair : tie.Need-add-pair
+add-pair c = search needs
+
+pair-requires : tie.Need-pair-requires
+pair-requires c κs = search needs
+
+returns-2 : tie.Need-returns-2
+returns-2 c =
+    let p = c .before in
+    let zero : p .pair .result ≡ 0 = omega arith in
+    rw (lt-ltb _ _ (p .before .before .if1 .left), ← p .pair .ensures, eq-eqb _ _ zero, p .before .fields-at .ensures)
+
+returns-3 : tie.Need-returns-3
+returns-3 c =
+    let p = c .before in
+    rw (lt-ltb _ _ (p .before .before .if1 .left), ← p .pair .ensures, ne-eqb _ _ (c .if2 .left), p .before .fields-at .ensures)
+
+pub decode-spec : {M : Type 1} → statement M
+decode-spec =
+    tie.close
+    (tie.spec returns fields-at-requires mul-pair add-pair pair-requires returns-2 returns-3)

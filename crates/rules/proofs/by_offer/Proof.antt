@@ -1,0 +1,23 @@
+-- `rules::by_offer` meets its contract: rule 1 on the offered equation, by cases. Assumes nothing.
+use borrow.Author.Tests.{eq-eqb, ne-eqb}
+use borrow.Author.Needs.{needs}
+use Rattle.rules.proofs.by_offer.Statement.{statement}
+use Rattle.rules.proofs.by_offer.Tie as tie
+
+enum-told : tie.Need-enum-told
+enum-told c = search needs
+
+enum-known-o : tie.Need-enum-known-o
+enum-known-o c = search needs
+
+returns : tie.Need-returns
+returns c = search needs
+
+returns-2 : tie.Need-returns-2
+returns-2 c = rw (c .before .before .o .given .1, eq-eqb _ _ (c .if1 .taken))
+
+returns-3 : tie.Need-returns-3
+returns-3 c = rw (c .before .before .o .given .1, ne-eqb _ _ (c .if1 .left))
+
+pub by-offer-spec : {M : Type 1} → statement M
+by-offer-spec = tie.close (tie.spec enum-told enum-known-o returns returns-2 returns-3)

@@ -1,0 +1,2 @@
+-- The rules that read nodes and equations.
+pub mod Rules
