@@ -1,13 +1,11 @@
 -- Steps and passes of the search. Assumes nothing.
 use mathlib.Core.Path.{_≡_, refl, sym, _∙_, ap}
-use mathlib.Core.Bool.{Bool, true, false, cond}
-use mathlib.Core.Logic.{_⊎_, inl, inr, ⊎-elim}
+use mathlib.Core.Bool.{Bool}
+use mathlib.Core.Logic.{inl, inr, ⊎-elim}
 use mathlib.Core.List.{List}
-use Prim.Native.Nat.{ℕ, suc, _+_, _*_, _-_, _≤_, _<_}
-use native.Mathlib.Nat.{le-of-suc-le-suc, eq-or-lt-of-le}
+use Prim.Native.Nat.{ℕ, _+_, _*_, _-_, _≤_, _<_}
 use native.Mathlib.Numerals.{add-one}
 use native.Mathlib.Omega.{arith}
-use lib.Dec.{eqb}
 use lib.ListN.{length, getD, set, length-set, replicate, length-replicate, getD-replicate}
 use lib.Seq.{getD-set-same, getD-set-other}
 use borrow.Author.Tests.{eq-eqb, ne-eqb}
@@ -15,14 +13,14 @@ use borrow.Author.Count.{below-more}
 use Rattle.store.specs.Views.{arityAt, childAt}
 use Rattle.store.specs.declared.Terms.{Terms}
 use Rattle.classes.specs.Table.{class, sumTo, Table}
-use Rattle.classes.proofs.SumLaws.{sum-at, sum-most, sum-some}
+use Rattle.classes.proofs.SumLaws.{sum-most}
 use Rattle.trace.specs.Nodes.{IsFunctor, Formed}
 use Rattle.peel.specs.Nodes.{under}
 use Rattle.peel.specs.Passes.{turned}
-use Rattle.peel.proofs.CountLaws.{equal-or-not, sum-agree, sum-one}
-use Rattle.peel.proofs.PeelLaws.{turned-low, turned-back, class-low}
-use Rattle.descent.specs.Reach.{levelOf, Onward, Ways}
-use Rattle.descent.specs.Search.{Source, Step, Steps, Closed, Untouched, Reached, reachedAt, Reaching, Entered, before, now, Grown, Expanding, Expanded, Passed}
+use Rattle.peel.proofs.CountLaws.{equal-or-not, sum-one}
+use Rattle.peel.proofs.PeelLaws.{turned-low, turned-back}
+use Rattle.descent.specs.Reach.{Onward, Ways}
+use Rattle.descent.specs.Search.{Source, Step, Steps, Closed, Reached, reachedAt, Reaching, Entered, before, now, Grown, Expanding, Expanded, Passed}
 
 -- ---- summands
 

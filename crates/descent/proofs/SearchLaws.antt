@@ -2,7 +2,7 @@
 -- has a functor node in its class. Assumes nothing.
 use mathlib.Core.Path.{_≡_, refl, sym, _∙_, ap}
 use mathlib.Core.Bool.{true, false}
-use mathlib.Core.Logic.{_⊎_, inl, inr, ⊎-elim}
+use mathlib.Core.Logic.{inl, inr, ⊎-elim}
 use mathlib.Core.List.{List}
 use mathlib.Core.Option.{some}
 use Prim.Native.Nat.{ℕ, zero, suc, _≤_, _<_}
@@ -24,7 +24,7 @@ use Rattle.peel.proofs.CountLaws.{equal-or-not}
 use Rattle.peel.proofs.PeelLaws.{class-low}
 use Rattle.peel.specs.Peel.{heightAt, Peeled}
 use Rattle.peel.proofs.OutcomeLaws.{child-under, cycle-left}
-use Rattle.descent.specs.Reach.{levelOf, Edge, Edges, Searched}
+use Rattle.descent.specs.Reach.{levelOf, Edge, Searched}
 use Rattle.descent.specs.Search.{Source, Step, Reached, OnCycle}
 
 -- a child is a step down

@@ -1,8 +1,7 @@
 // The classes strictly below a node, and a node on a cycle.
 use peel::Heights;
-ghost use mathlib.Core.Path.{_≡_};
-ghost use Prim.Native.Nat.{ℕ, _+_, _*_, _≤_, _<_};
-ghost use lib.ListN.{length, getD};
+ghost use Prim.Native.Nat.{_+_, _*_, _≤_, _<_};
+ghost use lib.ListN.{getD};
 ghost use Rattle.graph.specs.State.{State, IsNode};
 ghost use Rattle.graph.specs.Closure.{Below, Cycle};
 ghost use Rattle.store.specs.Views.{terms};

@@ -1,6 +1,6 @@
 -- What the peel says of a state whose closure the table is: a solution where nothing is left, else a cycle; and a node below itself is
 -- in a class that is left. Assumes nothing.
-use mathlib.Core.Path.{_≡_, sym, _∙_, ap}
+use mathlib.Core.Path.{_≡_, refl, sym, _∙_, ap}
 use mathlib.Core.Logic.{inr, ⊎-elim}
 use mathlib.Core.List.{List}
 use Prim.Native.Nat.{ℕ, _<_}
@@ -45,6 +45,15 @@ module _ (g : Terms) (s : State) (t h : List ℕ) (n : ℕ) (T : Table t) (F : F
             let d : heightOf u ≡ 255 → ⊥ = none-left g t h (omega (arith, z, P .count)) (class t u) (is-class g t T F u (K .0 .known)) in
             rw (← K .1 .1) (P .lower u i (K .0) (K .1 .0) d);
       }
+
+  -- its classes are the table's, its heights those of the peel
+  pub solution-class : (z : n ≡ 0) (u : ℕ) → solution z .classes .class u ≡ class t u
+  unfolding solution
+  solution-class z u = E .table u
+
+  pub solution-height : (z : n ≡ 0) (u : ℕ) → solution z .height u ≡ heightAt h (class t u)
+  unfolding solution
+  solution-height z u = refl
 
   -- nodes of classes that are left
   record Left (x : ℕ) : Type 0 where

@@ -1,6 +1,6 @@
 // Heights of the classes of a table, by peeling: a class goes once the children of its functor nodes lie in classes that went.
 ghost use mathlib.Core.Path.{_≡_};
-ghost use Prim.Native.Nat.{ℕ, _+_, _≤_, _<_};
+ghost use Prim.Native.Nat.{_+_, _≤_, _<_};
 ghost use lib.ListN.{length, replicate};
 ghost use Rattle.classes.specs.Table.{Table};
 ghost use Rattle.store.specs.Views.{terms};

@@ -1,6 +1,6 @@
 -- `descent::enter` meets its contract. Assumes nothing.
-use mathlib.Core.Path.{_≡_, refl, sym, _∙_, ap}
-use Prim.Native.Nat.{ℕ, _<_}
+use mathlib.Core.Path.{refl, _∙_, ap}
+use Prim.Native.Nat.{ℕ}
 use lib.ListN.{getD}
 use Rattle.descent.specs.Search.{before}
 use Rattle.descent.proofs.ReachLaws.{class-read, enter-now}

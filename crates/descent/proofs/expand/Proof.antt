@@ -1,6 +1,5 @@
 -- `descent::expand` meets its contract: the first j children are looked at. Assumes nothing.
-use mathlib.Core.Path.{_≡_}
-use Prim.Native.Nat.{ℕ, _≤_, _-_, _<_}
+use Prim.Native.Nat.{_≤_, _-_, _<_}
 use Rattle.store.specs.Views.{terms}
 use Rattle.descent.specs.Search.{Expanding}
 use Rattle.descent.proofs.ReachLaws.{reaching-small, expand-none, child-low, expand-more, expand-all, expand-idle}

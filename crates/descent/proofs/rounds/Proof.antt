@@ -1,12 +1,9 @@
 -- `descent::rounds` meets its contract: each pass but the last reaches a class. Assumes nothing.
-use mathlib.Core.Logic.{⊎-elim}
-use Prim.Native.Nat.{_≤_, _-_, _<_}
-use native.Mathlib.Nat.{eq-or-lt-of-le}
+use Prim.Native.Nat.{_-_}
 use Rattle.store.specs.Views.{terms}
 use Rattle.descent.specs.Search.{Reaching}
 use Rattle.descent.proofs.ReachLaws.{reaching-small, pass-done}
 use native.Mathlib.Omega.{arith}
-use borrow.Author.Needs.{needs}
 use Rattle.descent.proofs.rounds.Statement.{statement}
 use Rattle.descent.proofs.rounds.Tie as tie
 

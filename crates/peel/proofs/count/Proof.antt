@@ -1,9 +1,7 @@
 -- `peel::count` meets its contract: the nodes below u are counted. Assumes nothing.
 use mathlib.Core.Path.{_≡_, refl, sym, _∙_}
 use mathlib.Core.Logic.{⊎-elim}
-use Prim.Native.Nat.{ℕ, _≤_, _-_, _<_}
-use lib.ListN.{length}
-use borrow.Author.Tests.{eq-eqb, ne-eqb}
+use Prim.Native.Nat.{_≤_, _-_, _<_}
 use Rattle.peel.specs.Passes.{Counted}
 use Rattle.peel.proofs.PeelLaws.{counted-none, counted-low, counted-classes, counted-more, root-one, root-none}
 use native.Mathlib.Omega.{arith}

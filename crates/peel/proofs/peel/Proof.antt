@@ -1,6 +1,5 @@
 -- `peel::peel` meets its contract. Assumes nothing.
 use Rattle.peel.proofs.PeelLaws.{peel-start}
-use native.Mathlib.Omega.{arith}
 use borrow.Author.Needs.{needs}
 use Rattle.peel.proofs.peel.Statement.{statement}
 use Rattle.peel.proofs.peel.Tie as tie

@@ -1,5 +1,5 @@
 -- `peel::stuck` meets its contract: the first j children lie in classes that went. Assumes nothing.
-use mathlib.Core.Path.{_≡_, refl, sym, _∙_}
+use mathlib.Core.Path.{_≡_, sym, _∙_}
 use Prim.Native.Nat.{ℕ, _≤_, _-_, _<_}
 use borrow.Author.Count.{below-more}
 use Rattle.store.specs.Views.{terms}

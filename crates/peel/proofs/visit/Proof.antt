@@ -1,5 +1,5 @@
 -- `peel::visit` meets its contract. Assumes nothing.
-use mathlib.Core.Path.{_≡_, refl, sym, _∙_, ap}
+use mathlib.Core.Path.{refl, ap}
 use Prim.Native.Nat.{ℕ}
 use lib.ListN.{getD}
 use Rattle.peel.proofs.PeelLaws.{own-low, small, visit-same, some-wait, release-more, release-last}
