@@ -1,0 +1,2 @@
+-- What a replay of a trace promises.
+pub mod Replay

@@ -1,0 +1,7 @@
+-- Laws of the writer's lines.
+--   Claims     what each rule's line claims, and lists of lines with one more
+--   RunLaws    what each run of lines adds
+--   GoalLaws   lines that conclude what shows a goal are a proof of it
+pub mod Claims
+pub mod RunLaws
+pub mod GoalLaws

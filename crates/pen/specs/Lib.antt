@@ -1,0 +1,3 @@
+-- Claims on paper, and what each run of lines adds.
+pub mod Written
+pub mod Runs

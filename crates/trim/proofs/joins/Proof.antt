@@ -1,0 +1,134 @@
+-- `trim::joins` meets its contract: after k turns the table is that of the first k entries. Assumes nothing.
+use native.Mathlib.Omega.{arith}
+use borrow.Author.Needs.{needs}
+use Prim.Native.Nat.{ℕ, _≤_, _-_}
+use mathlib.Core.Path.{_≡_}
+use Rattle.trim.specs.Trim.{Rebuilt}
+use Rattle.trim.proofs.TrimLaws.{passed, rebuilt-none, rebuilt-more, rejoins}
+use Rattle.trim.proofs.joins.Statement.{statement}
+use Rattle.trim.proofs.joins.Tie as tie
+
+abbrev Inv-loop : tie.InvT-loop
+Inv-loop trace steps left right child u v xs ys n table₀ k₀ table k =
+    (k ≤ steps) × Rebuilt left right child trace steps k table
+
+abbrev μ-loop : tie.MeasureT-loop
+μ-loop trace steps left right child u v xs ys n table₀ k₀ table k = steps - k
+
+fresh-requires : tie.Need-fresh-requires Inv-loop μ-loop
+fresh-requires c κs = search needs
+
+loop-holds : tie.Need-loop-holds Inv-loop μ-loop
+loop-holds c = (search needs, rebuilt-none (c .fresh .ensures))
+
+mul-e : tie.Need-mul-e Inv-loop μ-loop
+mul-e c = search needs
+
+element-copy-out-e : tie.Need-element-copy-out-e Inv-loop μ-loop
+element-copy-out-e c = search needs
+
+end-of-requires : tie.Need-end-of-requires Inv-loop μ-loop
+end-of-requires c κs =
+    let a = c .before .before in
+    let r = a .before .before .pre .0 .1 .1 (a .loop .k) (search needs) in
+    (r .held, (r .placed, search needs))
+
+end-of-requires-2 : tie.Need-end-of-requires-2 Inv-loop μ-loop
+end-of-requires-2 c κs =
+    let a = c .before .before .before in
+    let r = a .before .before .pre .0 .1 .1 (a .loop .k) (search needs) in
+    (r .held, (r .placed, search needs))
+
+cast-if1 : tie.Need-cast-if1 Inv-loop μ-loop
+cast-if1 c = search needs
+
+array-read-if1 : tie.Need-array-read-if1 Inv-loop μ-loop
+array-read-if1 c =
+    let a = c .before .before .before .before in
+    let r = a .before .before .pre .0 .1 .1 (a .loop .k) (search needs) in
+    omega (arith, c .before .end-of .ensures, r .lefts)
+
+cast-if1-2 : tie.Need-cast-if1-2 Inv-loop μ-loop
+cast-if1-2 c = search needs
+
+array-read-if1-2 : tie.Need-array-read-if1-2 Inv-loop μ-loop
+array-read-if1-2 c =
+    let a = c .before .before .before .before in
+    let r = a .before .before .pre .0 .1 .1 (a .loop .k) (search needs) in
+    omega (arith, c .end-of2 .ensures, r .rights)
+
+returns : tie.Need-returns Inv-loop μ-loop
+returns c = λ q. absurd (let z : _≡_ {A = ℕ} 0 1 = cc in omega arith)
+
+together-requires : tie.Need-together-requires Inv-loop μ-loop
+together-requires c κs = search needs
+
+returns-2 : tie.Need-returns-2 Inv-loop μ-loop
+returns-2 c = λ q. absurd (let z : _≡_ {A = ℕ} 0 1 = cc in omega arith)
+
+merge-requires : tie.Need-merge-requires Inv-loop μ-loop
+merge-requires c κs =
+    let b = c .before .before .before in
+    let a = b .before .before .before .before in
+    let r = a .before .before .pre .0 .1 .1 (a .loop .k) (search needs) in
+    (a .loop .inv .1 .table, (rw (b .before .end-of .ensures) (r .lefts), rw (b .end-of2 .ensures) (r .rights)))
+
+add-k : tie.Need-add-k Inv-loop μ-loop
+add-k c = search needs
+
+loop-less : tie.Need-loop-less Inv-loop μ-loop
+loop-less c = search needs
+
+loop-again : tie.Need-loop-again Inv-loop μ-loop
+loop-again c =
+    let b = c .before .before .before .before in
+    let a = b .before .before .before .before in
+    let S = a .before .before in (
+      search needs,
+      rebuilt-more (a .loop .inv .1) (search needs) (omega (arith, S .pre .0 .0, S .pre .0 .1 .0)) (b .before .end-of .ensures) (b .end-of2 .ensures)
+          (c .before .before .before .if1 .left) (c .before .before .together .ensures (passed _ (c .before .if2 .left))) (c .merge .ensures),
+    )
+
+array-read-if3 : tie.Need-array-read-if3 Inv-loop μ-loop
+array-read-if3 c = search needs
+
+array-read-if3-2 : tie.Need-array-read-if3-2 Inv-loop μ-loop
+array-read-if3-2 c = search needs
+
+returns-3 : tie.Need-returns-3 Inv-loop μ-loop
+returns-3 c = λ q. absurd (let z : _≡_ {A = ℕ} 0 1 = cc in omega arith)
+
+paired-requires : tie.Need-paired-requires Inv-loop μ-loop
+paired-requires c κs = search needs
+
+returns-4 : tie.Need-returns-4 Inv-loop μ-loop
+returns-4 c = λ q. rejoins (c .before .before .before .loop .inv .1) (omega arith) (c .before .if3 .left) (c .paired .ensures q)
+
+pub joins-spec : {M : Type 1} → statement M
+joins-spec =
+    tie.close
+    (tie.spec
+    Inv-loop
+    μ-loop
+    fresh-requires
+    loop-holds
+    mul-e
+    element-copy-out-e
+    end-of-requires
+    end-of-requires-2
+    cast-if1
+    array-read-if1
+    cast-if1-2
+    array-read-if1-2
+    returns
+    together-requires
+    returns-2
+    merge-requires
+    add-k
+    loop-less
+    loop-again
+    array-read-if3
+    array-read-if3-2
+    returns-3
+    paired-requires
+    returns-4)

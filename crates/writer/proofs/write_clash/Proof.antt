@@ -1,0 +1,20 @@
+-- `writer::write_clash` meets its contract. Assumes nothing.
+use native.Mathlib.Omega.{arith}
+use borrow.Author.Needs.{needs}
+use Rattle.writer.proofs.WriterLaws.{goal-clash}
+use Rattle.writer.proofs.write_clash.Statement.{statement}
+use Rattle.writer.proofs.write_clash.Tie as tie
+
+show-same-requires : tie.Need-show-same-requires
+show-same-requires c κs =
+    let S = c .before .before in
+    (S .pre .0, (S .pre .1 .0, (S .pre .1 .1 .0, S .pre .1 .1 .1 .0)))
+
+same-length : tie.Need-same-length
+same-length c = search needs
+
+returns : tie.Need-returns
+returns c = goal-clash _ _ _ (c .before .before .before .before .before .pre .1 .1 .1 .1) (c .before .before .show-same .ensures)
+
+pub write-clash-spec : {M : Type 1} → statement M
+write-clash-spec = tie.close (tie.spec show-same-requires same-length returns)

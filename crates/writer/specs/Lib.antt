@@ -1,0 +1,2 @@
+-- Proofs for the calls.
+pub mod Writer
