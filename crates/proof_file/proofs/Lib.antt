@@ -1,0 +1,2 @@
+-- Laws of the proof file.
+pub mod FileLaws
