@@ -1,0 +1,3 @@
+-- Laws of the examination.
+pub mod AloneLaws
+pub mod ExamineLaws

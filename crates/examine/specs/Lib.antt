@@ -1,0 +1,2 @@
+-- What examining a value finds.
+pub mod Examines

@@ -1,0 +1,81 @@
+// Whether a value is a workspace: its shape first, then its held equations are solved. Every call begins here, and goes on from
+// the class table and the trace that this leaves.
+ghost use mathlib.Core.Path.{_≡_};
+ghost use lib.ListN.{length};
+ghost use Rattle.store.specs.Views.{terms, equations};
+ghost use Rattle.store.specs.Shape.{Shape};
+ghost use Rattle.examine.specs.Examines.{Examines};
+use solver::Verdict;
+
+// Where the value is a workspace, the class table of its held equations, and how many entries its trace has.
+pub struct Examined {
+    pub valid: bool,
+    pub table: [u8; 64],
+    pub steps: usize,
+}
+
+fn solve<'a>(
+    trace: &mut [u16; 64],
+    n: usize,
+    kind: &'a [u8; 64],
+    symbol: &'a [u16; 64],
+    arity: &'a [u8; 64],
+    child: &'a [u8; 256],
+    m: usize,
+    name: &'a [u16; 256],
+    left: &'a [u8; 256],
+    right: &'a [u8; 256],
+) -> Examined
+    requires { ⌜ Shape (terms n (now kind) (now symbol) (now arity) (now child)) (equations m (now name) (now left) (now right)) ⌝ }
+    requires { ⌜ length (now trace) ≡ 64 ⌝ }
+    ensures { λ r. ⌜ Examines (terms n (now (kind .entry)) (now (symbol .entry)) (now (arity .entry)) (now (child .entry)))
+        (equations m (now (name .entry)) (now (left .entry)) (now (right .entry))) (now (trace .exit)) r ⌝ }
+{
+    let o = solver::decide(trace, n, kind, symbol, arity, child, m, name, left, right);
+    let table = o.table;
+    let steps = o.steps;
+    let verdict = o.verdict;
+    match verdict {
+        Verdict::Solved => Examined {
+            valid: true,
+            table,
+            steps,
+        },
+        Verdict::Clash(_, _) => Examined {
+            valid: false,
+            table,
+            steps,
+        },
+        Verdict::Cycle(_) => Examined {
+            valid: false,
+            table,
+            steps,
+        },
+    }
+}
+
+pub fn examine<'a>(
+    trace: &mut [u16; 64],
+    n: usize,
+    kind: &'a [u8; 64],
+    symbol: &'a [u16; 64],
+    arity: &'a [u8; 64],
+    child: &'a [u8; 256],
+    m: usize,
+    name: &'a [u16; 256],
+    left: &'a [u8; 256],
+    right: &'a [u8; 256],
+) -> Examined
+    requires { ⌜ length (now trace) ≡ 64 ⌝ }
+    ensures { λ r. ⌜ Examines (terms n (now (kind .entry)) (now (symbol .entry)) (now (arity .entry)) (now (child .entry)))
+        (equations m (now (name .entry)) (now (left .entry)) (now (right .entry))) (now (trace .exit)) r ⌝ }
+{
+    if shape::shaped(n, kind, symbol, arity, child, m, name, left, right) {
+        return solve(trace, n, kind, symbol, arity, child, m, name, left, right);
+    }
+    Examined {
+        valid: false,
+        table: [0; 64],
+        steps: 0,
+    }
+}

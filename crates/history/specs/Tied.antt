@@ -1,0 +1,53 @@
+-- The list theorem is about the code: whatever a method's own `ensures` allows is a step of a run (`Ran`), or the record that the
+-- theorem's reader knows the call by. `Post` is that clause as Rattle reads it from the source, over the arguments, the result and the
+-- arguments at exit (of no use for a parameter by value); bytes that are lent are `now` of the reference, at entry and at exit.
+-- A change of a method's contract that `Ran` doesn't follow is refused here.
+--   Tied     fresh and the five calls of a list: declare both ways, equate, withdraw, clear
+--   Beside   compare, class and check, which the book doesn't know
+-- Assumes nothing: these are definitions.
+use mathlib.Core.Path.{_≡_}
+use mathlib.Core.List.{List}
+use Prim.Native.Nat.{ℕ}
+use contract.Lifetimes.{Lfts}
+use denote.Ref.{RefT, now}
+use Rattle.graph.specs.State.{equationOf}
+use Rattle.unifier.specs.Views.{freshWorkspace}
+use Rattle.unifier.specs.Replies.{offerOf, goalOf}
+use Rattle.unifier.specs.Compare.{Compares}
+use Rattle.unifier.specs.Class.{Classifies}
+use Rattle.unifier.specs.Check.{Checks}
+use Rattle.unifier.specs.declared.Workspace.{Workspace}
+use Rattle.unifier.specs.declared.Outcome.{Outcome}
+use Rattle.unifier.specs.declared.Compared.{Compared}
+use Rattle.unifier.specs.declared.Classified.{Classified}
+use Rattle.unifier.specs.declared.Checked.{Checked}
+use Rattle.unifier.specs.declared.Offer.{Offer}
+use Rattle.unifier.specs.declared.Goal.{Goal}
+use Rattle.history.specs.Calls as history
+use Rattle.history.specs.Calls.{Ran, declareVariable, declareFunctor, equate, replied, wrote, cleared}
+use Rattle.unifier.proofs.Workspace.fresh.Reads as fresh
+use Rattle.unifier.proofs.Workspace.declare_variable.Reads as declare-variable
+use Rattle.unifier.proofs.Workspace.declare_functor.Reads as declare-functor
+use Rattle.unifier.proofs.Workspace.equate.Reads as equate-call
+use Rattle.unifier.proofs.Workspace.withdraw.Reads as withdraw
+use Rattle.unifier.proofs.Workspace.clear.Reads as clear
+use Rattle.unifier.proofs.Workspace.compare.Reads as compare
+use Rattle.unifier.proofs.Workspace.class_of.Reads as class-of
+use Rattle.unifier.proofs.Workspace.check.Reads as check
+
+pub record Tied : Type 0 where
+  pub starts : (v : Workspace) → fresh.Post tt tt v tt → v ≡ freshWorkspace
+  pub declares-variable : (w : Workspace) (o : Outcome) (x : Workspace) → declare-variable.Post tt (w, tt) o (x, tt) → Ran w declareVariable (replied o)
+  pub declares-functor : (κs : Lfts 1) (w : Workspace) (f : ℕ) (cs : RefT (List ℕ)) (o : Outcome) (x : Workspace) (y : ℕ) (z : RefT (List ℕ))
+      → declare-functor.Post κs (w, (f, (cs, tt))) o (x, (y, (z, tt))) → Ran w (declareFunctor f (now cs)) (replied o)
+  pub withdraws : (w : Workspace) (n : ℕ) (o : Outcome) (x : Workspace) (y : ℕ) → withdraw.Post tt (w, (n, tt)) o (x, (y, tt)) → Ran w (history.withdraw n) (replied o)
+  pub offers : (κs : Lfts 1) (w : Workspace) (n l r : ℕ) (lent : RefT (List ℕ)) (o : Outcome) (x : Workspace) (n′ l′ r′ : ℕ) (left : RefT (List ℕ))
+      → equate-call.Post κs (w, (n, (l, (r, (lent, tt))))) o (x, (n′, (l′, (r′, (left, tt))))) → Ran w (equate (equationOf n l r) (now lent)) (wrote o (now left))
+  pub clears : (w v x : Workspace) → clear.Post tt (w, tt) v (x, tt) → Ran w history.clear (cleared v)
+
+pub record Beside : Type 0 where
+  pub compares : (κs : Lfts 1) (w : Workspace) (u v : ℕ) (lent : RefT (List ℕ)) (r : Compared) (x : Workspace) (u′ v′ : ℕ) (left : RefT (List ℕ))
+      → compare.Post κs (w, (u, (v, (lent, tt)))) r (x, (u′, (v′, (left, tt)))) → Compares w u v (now lent) (now left) r
+  pub classifies : (w : Workspace) (u : ℕ) (r : Classified) (x : Workspace) (y : ℕ) → class-of.Post tt (w, (u, tt)) r (x, (y, tt)) → Classifies w u r
+  pub checks : (κs : Lfts 1) (w : Workspace) (f : Offer) (lines : RefT (List ℕ)) (g : Goal) (r : Checked) (x : Workspace) (y : Offer) (z : RefT (List ℕ)) (h : Goal)
+      → check.Post κs (w, (f, (lines, (g, tt)))) r (x, (y, (z, (h, tt)))) → Checks w (offerOf f) (goalOf g) (now lines) r

@@ -1,0 +1,3 @@
+-- Laws of the responses.
+pub mod RespondLaws
+pub mod StandLaws

@@ -1,0 +1,3 @@
+-- What the responses promise.
+pub mod Responds
+pub mod Stands

@@ -1,0 +1,243 @@
+// The verdict on an offered equation, and how two nodes stand, each with its proof in a lent buffer.
+ghost use mathlib.Core.Path.{_≡_};
+ghost use Prim.Native.Nat.{_≤_, _<_};
+ghost use lib.ListN.{length};
+ghost use Rattle.store.specs.Views.{terms, equations, stateOf};
+ghost use Rattle.classes.specs.Table.{Table};
+ghost use Rattle.trace.specs.Nodes.{Formed};
+ghost use Rattle.respond.specs.Responds.{Asked, Responds};
+ghost use Rattle.respond.specs.Stands.{Lies, Known, Stands};
+use solver::Verdict;
+
+// Held without a fault; a clash or a cycle with its number of lines.
+pub enum Response {
+    Held,
+    Clash(u16),
+    Cycle(u16),
+}
+
+// How two nodes stand, with the number of lines.
+pub enum Standing {
+    Same(u16),
+    Below(u16),
+    Above(u16),
+    Apart,
+}
+
+// The verdict with one equation more, between `x` and `y`, on the table and trace of the held equations. `names`, `lefts` and
+// `rights` have that equation too, after the held ones: `k` in all.
+pub fn offer<'a>(
+    buf: &mut [u8],
+    table: [u8; 64],
+    trace: &mut [u16; 64],
+    steps: usize,
+    n: usize,
+    kind: &'a [u8; 64],
+    symbol: &'a [u16; 64],
+    arity: &'a [u8; 64],
+    child: &'a [u8; 256],
+    m: usize,
+    name: &'a [u16; 256],
+    left: &'a [u8; 256],
+    right: &'a [u8; 256],
+    k: usize,
+    names: &'a [u16; 256],
+    lefts: &'a [u8; 256],
+    rights: &'a [u8; 256],
+    x: u8,
+    y: u8,
+) -> Response
+    requires { ⌜ Asked (terms n (now kind) (now symbol) (now arity) (now child)) (equations m (now name) (now left) (now right))
+        (equations k (now names) (now lefts) (now rights)) x y table (now trace) steps ⌝ }
+    requires { ⌜ 65536 ≤ length (now buf) ⌝ }
+    ensures { λ r. ⌜ Responds (stateOf (terms n (now (kind .entry)) (now (symbol .entry)) (now (arity .entry)) (now (child .entry)))
+        (equations k (now (names .entry)) (now (lefts .entry)) (now (rights .entry)))) (now (buf .entry)) (now (buf .exit)) r ⌝ }
+{
+    let o = solver::decide_offered(
+        table,
+        trace,
+        steps,
+        n,
+        kind,
+        symbol,
+        arity,
+        child,
+        m,
+        name,
+        left,
+        right,
+        x,
+        y,
+    );
+    let entries = o.steps;
+    let after = o.table;
+    let verdict = o.verdict;
+    match verdict {
+        Verdict::Solved => Response::Held,
+        Verdict::Clash(u, v) => {
+            let lines = writer::write_clash(
+                buf,
+                n,
+                kind,
+                symbol,
+                arity,
+                child,
+                k,
+                names,
+                lefts,
+                rights,
+                trace,
+                entries,
+                u,
+                v,
+            );
+            Response::Clash(lines as u16)
+        }
+        Verdict::Cycle(u) => {
+            let lines = writer::write_cycle(
+                buf,
+                n,
+                kind,
+                symbol,
+                arity,
+                child,
+                k,
+                names,
+                lefts,
+                rights,
+                after,
+                trace,
+                entries,
+                u,
+            );
+            Response::Cycle(lines as u16)
+        }
+    }
+}
+
+// Whether `v` lies below `u`.
+fn lies_below(
+    table: [u8; 64],
+    n: usize,
+    kind: &[u8; 64],
+    symbol: &[u16; 64],
+    arity: &[u8; 64],
+    child: &[u8; 256],
+    u: u8,
+    v: u8,
+) -> bool
+    requires { ⌜ Table table ⌝ }
+    requires { ⌜ Formed (terms n (now kind) (now symbol) (now arity) (now child)) ⌝ }
+    requires { ⌜ (u < n) × (v < n) ⌝ }
+    ensures { λ r. ⌜ Lies (terms n (now (kind .entry)) (now (symbol .entry)) (now (arity .entry)) (now (child .entry))) table u v r ⌝ }
+{
+    let mut parent = [0u8; 64];
+    let mut place = [0u8; 64];
+    let mut into = [0u8; 64];
+    let mut level = [0u8; 64];
+    descent::reach(
+        table,
+        &mut parent,
+        &mut place,
+        &mut into,
+        &mut level,
+        u,
+        n,
+        kind,
+        symbol,
+        arity,
+        child,
+    );
+    let c = table[v as usize];
+    if level[c as usize] == 0 {
+        return false;
+    }
+    true
+}
+
+// How `u` and `v` stand, in the closure of the equations that made the table and its trace.
+pub fn stand<'a>(
+    buf: &mut [u8],
+    table: [u8; 64],
+    trace: &'a [u16; 64],
+    steps: usize,
+    n: usize,
+    kind: &'a [u8; 64],
+    symbol: &'a [u16; 64],
+    arity: &'a [u8; 64],
+    child: &'a [u8; 256],
+    m: usize,
+    name: &'a [u16; 256],
+    left: &'a [u8; 256],
+    right: &'a [u8; 256],
+    u: u8,
+    v: u8,
+) -> Standing
+    requires { ⌜ Known (terms n (now kind) (now symbol) (now arity) (now child)) (equations m (now name) (now left) (now right)) u v table (now trace) steps ⌝ }
+    requires { ⌜ 65536 ≤ length (now buf) ⌝ }
+    ensures { λ r. ⌜ Stands (stateOf (terms n (now (kind .entry)) (now (symbol .entry)) (now (arity .entry)) (now (child .entry)))
+        (equations m (now (name .entry)) (now (left .entry)) (now (right .entry)))) u v (now (buf .entry)) (now (buf .exit)) r ⌝ }
+{
+    let a = table[u as usize];
+    let b = table[v as usize];
+    if a == b {
+        let lines = writer::write_same(
+            buf,
+            n,
+            kind,
+            symbol,
+            arity,
+            child,
+            m,
+            name,
+            left,
+            right,
+            trace,
+            steps,
+            u,
+            v,
+        );
+        return Standing::Same(lines as u16);
+    }
+    if lies_below(table, n, kind, symbol, arity, child, u, v) {
+        let lines = writer::write_below(
+            buf,
+            n,
+            kind,
+            symbol,
+            arity,
+            child,
+            m,
+            name,
+            left,
+            right,
+            table,
+            trace,
+            steps,
+            u,
+            v,
+        );
+        return Standing::Below(lines as u16);
+    }
+    if lies_below(table, n, kind, symbol, arity, child, v, u) {
+        let lines = writer::write_below(
+            buf,
+            n,
+            kind,
+            symbol,
+            arity,
+            child,
+            m,
+            name,
+            left,
+            right,
+            table,
+            trace,
+            steps,
+            v,
+            u,
+        );
+        return Standing::Above(lines as u16);
+    }
+    Standing::Apart
+}

@@ -1,0 +1,2 @@
+-- Laws of the choice between two proofs.
+pub mod ChoiceLaws

@@ -1,0 +1,216 @@
+-- The lines that a call left, handed to check: it passes them. Assumes nothing.
+use mathlib.Core.Path.{_≡_, refl, sym, ap, _∙_, subst}
+use mathlib.Core.Bool.{Bool, true, false, not, _&&_, _||_, cond}
+use mathlib.Core.List.{List, [], _∷_, _++_}
+use mathlib.Core.Option.{Option, none, some}
+use Prim.Native.Nat.{ℕ, _+_, _*_, _/_, _%_, _≤_, _<_}
+use native.Mathlib.Omega.{arith}
+use native.Mathlib.Nat.{mul-div-right}
+use lib.ListN.{length, take, getD, length-append}
+use lib.Seq.{getD-take, length-take-le}
+use lib.Dec.{eqb, ltb, leb}
+use borrow.Author.Tests.{eq-eqb, ne-eqb, lt-ltb, le-ltb, lt-leb, le-leb, ltb-true, ltb-false}
+use Rattle.graph.specs.State.{State, Equation, nameHeld, offered}
+use Rattle.graph.specs.Goals.{Goal, clash-goal, cycle-goal, same-goal, below-goal, Judgement, passed, refused, shows, Ended, ends, breaks, empty, lastOf, ended, judgeEnd, judge}
+use Rattle.graph.specs.Lines.{Line, Claim, Checked, all, broken, onAll, more, claimOf, checked}
+use Rattle.graph.proofs.BoolLaws.{and-left, and-right}
+use Rattle.graph.proofs.TabLaws.{tab-length, tab-same}
+use Rattle.lines.specs.Codec.{two, lineFrom, lineAt, firstLines, linesOf}
+use Rattle.lines.specs.Proof.{ProofIn}
+use Rattle.checker.specs.Answers.{badLength, judgedAs, answerTo}
+use Rattle.checker.specs.declared.Judged.{Judged}
+use Rattle.checker.specs.declared.Judged.the-variants.{Refused}
+use Rattle.store.specs.Operations.{First}
+use Rattle.store.proofs.ViewLaws.{nodes-length}
+use Rattle.store.proofs.RemoveLaws.{held-tells}
+use Rattle.unifier.specs.Views.{stateOf, Valid}
+use Rattle.unifier.specs.Replies.{goalOf, offerOf}
+use Rattle.unifier.specs.Check.{bothBelow, offerBelow, goalBelow, offerNew, withOffer, checkReply}
+use Rattle.unifier.specs.Inner.{Reported, Checking}
+use Rattle.unifier.specs.declared.Workspace.{Workspace}
+use Rattle.unifier.specs.declared.Goal as goals
+use Rattle.unifier.specs.declared.Goal.the-variants as goal
+use Rattle.unifier.specs.declared.Offer.{Offer}
+use Rattle.unifier.specs.declared.Offer.the-variants as offer
+
+line-take : (bs : List ℕ) (m o : ℕ) → o + 8 ≤ m → lineFrom (take m bs) o ≡ lineFrom bs o
+line-take bs m o h =
+    rw (
+      getD-take m bs o 0 (omega arith),
+      getD-take m bs (o + 1) 0 (omega arith),
+      getD-take m bs (o + 2) 0 (omega arith),
+      getD-take m bs (o + 2 + 1) 0 (omega arith),
+      getD-take m bs (o + 4) 0 (omega arith),
+      getD-take m bs (o + 4 + 1) 0 (omega arith),
+      getD-take m bs (o + 6) 0 (omega arith),
+      getD-take m bs (o + 6 + 1) 0 (omega arith),
+    )
+
+lines-take : (n : ℕ) (bs : List ℕ) → firstLines n (take (8 * n) bs) ≡ firstLines n bs
+unfolding firstLines
+lines-take n bs = tab-same n (lineAt (take (8 * n) bs)) (lineAt bs) (λ i h. line-take bs (8 * n) (8 * i) (omega arith))
+
+whole-lines : (n : ℕ) → 1 ≤ n → n ≤ 8192 → badLength (8 * n) ≡ false
+whole-lines n a b =
+    let z : (8 * n) % 8 ≡ 0 = omega arith in
+    rw (ne-eqb (8 * n) 0 (λ e. omega arith), le-ltb 65536 (8 * n) (omega arith), eq-eqb ((8 * n) % 8) 0 z)
+
+-- the checker's word on bytes of a right length is its word on their lines
+whole-judged : (s : State) (g : Goal) (bytes : List ℕ) → badLength (length bytes) ≡ false → answerTo s g bytes ≡ judge s g (linesOf bytes)
+unfolding answerTo
+whole-judged s g bytes h = rw h
+
+offer-judged : (s : State) (e : Equation) (g : Goal) (bytes : List ℕ) → bothBelow (length (s .nodes)) (e .left) (e .right) ≡ true
+    → nameHeld (e .name) (s .equations) ≡ false → goalBelow (length (s .nodes)) g ≡ true → checkReply s (some e) g bytes ≡ answerTo (offered s e) g bytes
+unfolding checkReply
+offer-judged s e g bytes k w q = rw (k, q, w)
+
+-- offered to check with its equation, what a clash or a cycle left passes
+module _ (s : State) (e : Equation) (g : Goal) (n : ℕ) (before after : List ℕ) where
+  pub proof-checks : ProofIn (offered s e) g n before after → 8 * n ≤ length before → bothBelow (length (s .nodes)) (e .left) (e .right) ≡ true
+      → nameHeld (e .name) (s .equations) ≡ false → goalBelow (length (s .nodes)) g ≡ true → checkReply s (some e) g (take (8 * n) after) ≡ passed
+  proof-checks p r k w q =
+      let l : length (take (8 * n) after) ≡ 8 * n = length-take-le (8 * n) after (omega (arith, p .kept .size)) in
+      let c : linesOf (take (8 * n) after) ≡ firstLines n after =
+      ap (λ (m : ℕ). firstLines (m / 8) (take (8 * n) after)) l
+      ∙ ap (λ (m : ℕ). firstLines m (take (8 * n) after)) (mul-div-right n (omega arith))
+      ∙ lines-take n after in
+      let b : badLength (length (take (8 * n) after)) ≡ false = ap badLength l ∙ whole-lines n (p .some) (p .few) in
+      offer-judged s e g (take (8 * n) after) k w q
+      ∙ whole-judged (offered s e) g (take (8 * n) after) b
+      ∙ ap (judge (offered s e) g) c
+      ∙ p .passes
+
+-- ---- the calls' own tests, and the answer as a reply
+
+both-left : (n u v : ℕ) → bothBelow n u v ≡ true → u < n
+both-left n u v h = ltb-true u n (and-left (ltb u n) (ltb v n) h)
+
+both-right : (n u v : ℕ) → bothBelow n u v ≡ true → v < n
+both-right n u v h = ltb-true v n (and-right (ltb u n) (ltb v n) h)
+
+module _ (n u v : ℕ) where
+  pub offer-ends : (o : Offer) (k : ℕ) → o ≡ offer.Equation k u v → offerBelow n (offerOf o) ≡ true → (u < n) × (v < n)
+  offer-ends o k e h =
+      let b : bothBelow n u v ≡ true = rw e at h in
+      (both-left n u v b, both-right n u v b)
+
+  pub same-ends : (g : goals.Goal) → g ≡ goal.Same u v → goalBelow n (goalOf g) ≡ true → (u < n) × (v < n)
+  same-ends g e h =
+      let b : bothBelow n u v ≡ true = rw e at h in
+      (both-left n u v b, both-right n u v b)
+
+  pub below-ends : (g : goals.Goal) → g ≡ goal.Below u v → goalBelow n (goalOf g) ≡ true → (u < n) × (v < n)
+  below-ends g e h =
+      let b : bothBelow n u v ≡ true = rw e at h in
+      (both-left n u v b, both-right n u v b)
+
+lines-count : (bytes : List ℕ) → length (linesOf bytes) ≡ length bytes / 8
+unfolding firstLines
+lines-count bytes = tab-length (length bytes / 8) (lineAt bytes)
+
+-- a line that breaks its rule is one of the lines
+broken-within : (s : State) (done : List Claim) (ls : List Line) (k : ℕ) → checked s done ls ≡ broken k → k < length done + length ls
+broken-within s done [] k h = absurd (let z : _≡_ {A = ℕ} 0 1 = cc in omega arith)
+broken-within s done (l ∷ ls) k h = go (claimOf s done l) h (λ c. broken-within s (done ++ (c ∷ [])) ls k)
+  where
+    go : (o : Option Claim) → onAll (more done o) (λ next. checked s next ls) ≡ broken k
+        → ((c : Claim) → checked s (done ++ (c ∷ [])) ls ≡ broken k → k < length (done ++ (c ∷ [])) + length ls) → k < length done + length (l ∷ ls)
+    go none q r = let e : length done ≡ k = cc in omega arith
+    go (some c) q r = omega (arith, r c q, length-append done (c ∷ []))
+
+module _ (s : State) (g : Goal) (bytes : List ℕ) where
+  answer-reported : Reported (answerTo s g bytes)
+  unfolding answerTo
+  answer-reported = go (badLength (length bytes)) refl
+    where
+      short : (n : ℕ) → badLength n ≡ false → n ≤ 65536
+      short n h = le-of n (eqb n 0) (ltb 65536 n) (not (eqb (n % 8) 0)) refl h
+        where
+          le-of : (n : ℕ) (x y z : Bool) → ltb 65536 n ≡ y → x || (y || z) ≡ false → n ≤ 65536
+          le-of n x false z e q = ltb-false 65536 n e
+          le-of n true true z e q = absurd (let w : _≡_ {A = ℕ} 0 1 = cc in omega arith)
+          le-of n false true z e q = absurd (let w : _≡_ {A = ℕ} 0 1 = cc in omega arith)
+
+      shown : (b : Bool) → Reported (cond b passed (refused 13 0))
+      shown true = tt
+      shown false = (omega arith, λ n. refl)
+
+      ending : (e : Ended) → ((k : ℕ) → e ≡ breaks k → k < 65536) → Reported (judgeEnd (s .nodes) g e)
+      ending (ends c) h = shown (shows (s .nodes) g c)
+      ending (breaks k) h = (h k refl, λ n. absurd (n refl))
+      ending empty h = (omega arith, λ n. refl)
+
+      last-not : (cs : List Claim) (k : ℕ) → lastOf cs ≡ breaks k → ⊥
+      last-not [] k q = let z : _≡_ {A = ℕ} 0 1 = cc in omega arith
+      last-not (c ∷ []) k q = let z : _≡_ {A = ℕ} 0 1 = cc in omega arith
+      last-not (c ∷ (d ∷ ds)) k q = last-not (d ∷ ds) k q
+
+      within : (r : Checked) → ((k : ℕ) → r ≡ broken k → k < 65536) → (k : ℕ) → ended r ≡ breaks k → k < 65536
+      within (all cs) h k q = absurd (last-not cs k q)
+      within (broken j) h k q = let e : j ≡ k = cc in h k (rw e refl)
+
+      go : (b : Bool) → badLength (length bytes) ≡ b → Reported (cond b (refused 11 0) (judge s g (linesOf bytes)))
+      go true e = (omega arith, λ n. refl)
+      go false e =
+          ending (ended (checked s [] (linesOf bytes)))
+          (within (checked s [] (linesOf bytes))
+          (λ k q. omega (arith, broken-within s [] (linesOf bytes) k q, lines-count bytes, short (length bytes) e)))
+
+  pub reported : (j : Judgement) → j ≡ answerTo s g bytes → Reported j
+  reported j e = subst Reported (sym e) answer-reported
+
+module _ (j : Judged) (k i : ℕ) (e : j ≡ Refused k i) where
+  pub broken-fits : Reported (judgedAs j) → i < 65536
+  broken-fits r = (rw e at r) .0
+
+  pub reply-broken : k ≡ 12 → refused 12 i ≡ judgedAs j
+  reply-broken h = rw (e, h)
+
+  pub reply-refused : (k ≡ 12 → ⊥) → Reported (judgedAs j) → refused k 0 ≡ judgedAs j
+  reply-refused n r = let z : i ≡ 0 = (rw e at r) .1 n in rw (e, z)
+
+-- the offered name is held exactly where it is found among those in use
+pub name-new : (w : Workspace) (o : Offer) (n u v k : ℕ) → o ≡ offer.Equation n u v → First (w .equations .name) (w .equations .count) n k
+    → leb (w .equations .count) k ≡ offerNew (stateOf w) (offerOf o)
+name-new w o n u v k e f = rw (e, held-tells (w .equations) n k f) (go (ltb k (w .equations .count)) refl)
+  where
+    go : (b : Bool) → ltb k (w .equations .count) ≡ b → leb (w .equations .count) k ≡ not b
+    go true h = lt-leb _ _ (ltb-true k (w .equations .count) h)
+    go false h = le-leb _ _ (ltb-false k (w .equations .count) h)
+
+-- what check replies to an offer and a goal, from its tests
+module _ (w : Workspace) (o : Option Equation) (g : Goal) (bytes : List ℕ) where
+  pub check-offer : offerBelow (w .terms .count) o ≡ false → refused 4 0 ≡ checkReply (stateOf w) o g bytes
+  unfolding checkReply
+  check-offer h = rw (nodes-length (w .terms), h)
+
+  pub check-goal : offerBelow (w .terms .count) o ≡ true → goalBelow (w .terms .count) g ≡ false → refused 4 0 ≡ checkReply (stateOf w) o g bytes
+  unfolding checkReply
+  check-goal h k = rw (nodes-length (w .terms), h, k)
+
+  pub check-name : offerBelow (w .terms .count) o ≡ true → goalBelow (w .terms .count) g ≡ true → offerNew (stateOf w) o ≡ false
+      → refused 6 0 ≡ checkReply (stateOf w) o g bytes
+  unfolding checkReply
+  check-name h k n = rw (nodes-length (w .terms), h, k, n)
+
+  pub check-judged : Checking w o g → answerTo (withOffer (stateOf w) o) g bytes ≡ checkReply (stateOf w) o g bytes
+  unfolding checkReply
+  check-judged c = rw (nodes-length (w .terms), c .offer-known, c .goal-known, c .new)
+
+-- known nodes are below 64
+module _ (w : Workspace) (v : Valid w) where
+  small : (u x : ℕ) → bothBelow (w .terms .count) u x ≡ true → bothBelow 64 u x ≡ true
+  small u x h =
+      let f : w .terms .count ≤ 64 = v .shape .terms .few in
+      rw (lt-ltb u 64 (omega (arith, both-left _ u x h)), lt-ltb x 64 (omega (arith, both-right _ u x h)))
+
+  pub offer-small : (o : Option Equation) → offerBelow (w .terms .count) o ≡ true → offerBelow 64 o ≡ true
+  offer-small none h = refl
+  offer-small (some e) h = small (e .left) (e .right) h
+
+  pub goal-small : (g : Goal) → goalBelow (w .terms .count) g ≡ true → goalBelow 64 g ≡ true
+  goal-small clash-goal h = refl
+  goal-small cycle-goal h = refl
+  goal-small (same-goal u x) h = small u x h
+  goal-small (below-goal u x) h = small u x h

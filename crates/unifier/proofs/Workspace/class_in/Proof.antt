@@ -1,0 +1,55 @@
+-- `Workspace::class_in` meets its contract. Assumes nothing.
+use native.Mathlib.Omega.{arith}
+use borrow.Author.Needs.{needs}
+use Rattle.classes.specs.Table.{class}
+use Rattle.unifier.proofs.ClassLaws.{size-small, low-small, told}
+use Rattle.unifier.proofs.AskLaws.{class-unknown}
+use Rattle.unifier.proofs.Workspace.class_in.Statement.{statement}
+use Rattle.unifier.proofs.Workspace.class_in.Tie as tie
+
+refuse-class-requires : tie.Need-refuse-class-requires
+refuse-class-requires c κs = search needs
+
+returns : tie.Need-returns
+returns c =
+    let s = c .before .before .before in
+    rw (c .refuse-class .ensures) (class-unknown (s .args .self) (s .args .u) (s .pre .valid) (c .before .if1 .taken))
+
+array-read-c : tie.Need-array-read-c
+array-read-c c = search needs
+
+lowest-requires : tie.Need-lowest-requires
+lowest-requires c κs = search needs
+
+size-requires : tie.Need-size-requires
+size-requires c κs = search needs
+
+cast-t14 : tie.Need-cast-t14
+cast-t14 c =
+    let l = c .before in
+    let s = l .before .before .before in
+    omega (arith, low-small (s .args .self) (s .args .t2) (s .args .u) (s .pre) (l .before .if1 .left) (l .lowest .result) (l .lowest .ensures))
+
+cast-t16 : tie.Need-cast-t16
+cast-t16 c =
+    let a = c .before .before .before .before .args in
+    omega (arith, size-small (a .t2) (class (a .t2) (a .u)) (c .size .result) (c .size .ensures))
+
+returns-2 : tie.Need-returns-2
+returns-2 c =
+    let l = c .before in
+    let s = l .before .before .before in
+    told (s .args .self) (s .args .t2) (s .args .u) (s .pre) (l .before .if1 .left) (l .lowest .result) (c .size .result) (l .lowest .ensures) (c .size .ensures)
+
+pub class-in-spec : {M : Type 1} → statement M
+class-in-spec =
+    tie.close
+    (tie.spec
+    refuse-class-requires
+    returns
+    array-read-c
+    lowest-requires
+    size-requires
+    cast-t14
+    cast-t16
+    returns-2)

@@ -1,0 +1,56 @@
+-- `Workspace::compare_in` meets its contract. Assumes nothing.
+use borrow.Author.Needs.{needs}
+use Rattle.unifier.proofs.Laws.{solved-valid}
+use Rattle.unifier.proofs.CompareLaws.{refused-short, refused-left, refused-right}
+use Rattle.unifier.proofs.Workspace.compare_in.Statement.{statement}
+use Rattle.unifier.proofs.Workspace.compare_in.Tie as tie
+
+refuse-comparison-requires : tie.Need-refuse-comparison-requires
+refuse-comparison-requires c κs = search needs
+
+returns : tie.Need-returns
+returns c =
+    let s = c .before .before .before in
+    let a = s .args in
+    rw (c .refuse-comparison .ensures) (refused-short (a .self) (a .u) (a .v) (a .proof .now) (solved-valid _ _ _ _ (s .pre)) (c .before .if1 .taken))
+
+refuse-comparison-requires-2 : tie.Need-refuse-comparison-requires-2
+refuse-comparison-requires-2 c κs = search needs
+
+returns-2 : tie.Need-returns-2
+returns-2 c =
+    let s = c .before .before .before .before .before in
+    let a = s .args in
+    rw (c .refuse-comparison2 .ensures) (refused-left (a .self) (a .u) (a .v) (a .proof .now) (solved-valid _ _ _ _ (s .pre)) (c .before .before .before .if1 .left) (c .before .if2 .taken))
+
+refuse-comparison-requires-3 : tie.Need-refuse-comparison-requires-3
+refuse-comparison-requires-3 c κs = search needs
+
+returns-3 : tie.Need-returns-3
+returns-3 c =
+    let s = c .before .before .before .before .before .before in
+    let a = s .args in
+    rw (c .refuse-comparison3 .ensures) (refused-right (a .self) (a .u) (a .v) (a .proof .now) (solved-valid _ _ _ _ (s .pre)) (c .before .before .before .before .if1 .left) (c .before .before .if2 .left) (c .before .if3 .taken))
+
+stand-requires : tie.Need-stand-requires
+stand-requires c κs = record { solved = c .before .before .before .before .before .before .pre; left-known = c .before .before .if2 .left; right-known = c .before .if3 .left; room = c .before .before .before .before .if1 .left }
+
+same-length : tie.Need-same-length
+same-length c = search needs
+
+returns-4 : tie.Need-returns-4
+returns-4 c = c .before .before .stand .ensures
+
+pub compare-in-spec : {M : Type 1} → statement M
+compare-in-spec =
+    tie.close
+    (tie.spec
+    refuse-comparison-requires
+    returns
+    refuse-comparison-requires-2
+    returns-2
+    refuse-comparison-requires-3
+    returns-3
+    stand-requires
+    same-length
+    returns-4)

@@ -1,0 +1,52 @@
+-- What check promises: an equation. Refusals 1; 4 where the offered equation or the goal names an unknown node; 6 where the offered
+-- name is held; then the checker's own answer to the bytes (`answerTo`: 11, 12 with the line, 13, or passed), on the state of held
+-- and offered equations together.
+-- Assumes nothing: these are definitions.
+use mathlib.Core.Path.{_≡_}
+use mathlib.Core.Bool.{Bool, true, false, not, _&&_, cond}
+use mathlib.Core.List.{List}
+use mathlib.Core.Option.{Option, none, some}
+use Prim.Native.Nat.{ℕ, _<_}
+use lib.ListN.{length}
+use lib.Dec.{ltb}
+use Rattle.graph.specs.State.{State, Equation, nameHeld, offered}
+use Rattle.graph.specs.Goals.{Goal, clash-goal, cycle-goal, same-goal, below-goal, Judgement, passed, refused}
+use Rattle.checker.specs.Answers.{answerTo}
+use Rattle.unifier.specs.Views.{stateOf, Valid}
+use Rattle.unifier.specs.Replies.{judged}
+use Rattle.unifier.specs.declared.Workspace.{Workspace}
+use Rattle.unifier.specs.declared.Checked.{Checked}
+
+-- of n nodes, each named one is known
+abbrev pub bothBelow : ℕ → ℕ → ℕ → Bool
+bothBelow n u v = ltb u n && ltb v n
+
+abbrev pub offerBelow : ℕ → Option Equation → Bool
+offerBelow n none = true
+offerBelow n (some e) = bothBelow n (e .left) (e .right)
+
+abbrev pub goalBelow : ℕ → Goal → Bool
+goalBelow n clash-goal = true
+goalBelow n cycle-goal = true
+goalBelow n (same-goal u v) = bothBelow n u v
+goalBelow n (below-goal u v) = bothBelow n u v
+
+abbrev pub offerNew : State → Option Equation → Bool
+offerNew s none = true
+offerNew s (some e) = not (nameHeld (e .name) (s .equations))
+
+-- held and offered together
+abbrev pub withOffer : State → Option Equation → State
+withOffer s none = s
+withOffer s (some e) = offered s e
+
+unfoldable pub checkReply : State → Option Equation → Goal → List ℕ → Judgement
+checkReply s o g bytes =
+    cond (offerBelow (length (s .nodes)) o && goalBelow (length (s .nodes)) g)
+    (cond (offerNew s o) (answerTo (withOffer s o) g bytes) (refused 6 0))
+    (refused 4 0)
+
+pub record Checks (w : Workspace) (o : Option Equation) (g : Goal) (bytes : List ℕ) (r : Checked) : Type 0 where
+  pub refuses : (Valid w → ⊥) → judged (r .reply) ≡ refused 1 0
+  pub replies : Valid w → judged (r .reply) ≡ checkReply (stateOf w) o g bytes
+  pub workspace : r .workspace ≡ w

@@ -1,0 +1,56 @@
+-- What the calls' inner functions ask of each other.
+--   Classed   a workspace and the class table of its closure
+--   Offering  a solved workspace, and an equation that none of 5, 4, 6 and 7 refuses
+--   Comparing  a solved workspace, two known nodes and a buffer that is long enough
+--   Reported  only refusal 12 has a line, and its number fits 16 bits
+--   Checking  an offer and a goal with known nodes and a new name
+--   Early     the number of the first refusal that the two lists decide, 0 where they decide none
+-- Assumes nothing: these are definitions.
+use mathlib.Core.Path.{_≡_}
+use mathlib.Core.List.{List}
+use mathlib.Core.Option.{Option, none, some}
+use Prim.Native.Nat.{ℕ, _≤_, _<_}
+use mathlib.Core.Bool.{true}
+use lib.ListN.{length}
+use Rattle.graph.specs.State.{Equation}
+use Rattle.graph.specs.Goals.{Goal, Judgement, passed, refused}
+use Rattle.classes.specs.Table.{Table}
+use Rattle.classes.specs.Exact.{Exact}
+use Rattle.classes.specs.Members.{Alone}
+use Rattle.graph.specs.Book as book
+use Rattle.examine.specs.Examines.{Solved}
+use Rattle.unifier.specs.Views.{stateOf, Valid}
+use Rattle.unifier.specs.Check.{offerBelow, goalBelow, offerNew}
+use Rattle.unifier.specs.declared.Workspace.{Workspace}
+
+pub record Classed (w : Workspace) (t : List ℕ) : Type 0 where
+  pub valid : Valid w
+  pub table : Table t
+  pub exact : Exact (stateOf w) t
+  -- nodes that aren't declared are alone
+  pub alone : Alone (w .terms .count) t
+
+pub record Early (o : Option ℕ) (r : ℕ) : Type 0 where
+  pub passed : r ≡ 0 → o ≡ none
+  pub refused : (r ≡ 0 → ⊥) → o ≡ some r
+  pub small : r < 8
+
+abbrev pub Reported : Judgement → Type 0
+Reported passed = Unit {0}
+Reported (refused k i) = (i < 65536) × ((k ≡ 12 → ⊥) → i ≡ 0)
+
+pub record Checking (w : Workspace) (o : Option Equation) (g : Goal) : Type 0 where
+  pub valid : Valid w
+  pub offer-known : offerBelow (w .terms .count) o ≡ true
+  pub goal-known : goalBelow (w .terms .count) g ≡ true
+  pub new : offerNew (stateOf w) o ≡ true
+
+pub record Offering (w : Workspace) (e : Equation) (room : ℕ) (table trace : List ℕ) (steps : ℕ) : Type 0 where
+  pub solved : Solved (w .terms) (w .equations) table trace steps
+  pub past : book.early (stateOf w) (book.equate e room) ≡ none
+
+pub record Comparing (w : Workspace) (u v size : ℕ) (table trace : List ℕ) (steps : ℕ) : Type 0 where
+  pub solved : Solved (w .terms) (w .equations) table trace steps
+  pub left-known : u < w .terms .count
+  pub right-known : v < w .terms .count
+  pub room : 65536 ≤ size

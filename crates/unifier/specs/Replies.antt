@@ -1,0 +1,64 @@
+-- The enums of the replies in document 01's terms.
+--   said      a reply as the book gives it, line counts aside: 8 is a clash, 9 a cycle
+--   judged    the checker's reply: passed, or its number with, for 12, the line
+--   goalOf    the goal, by graph's
+--   offerOf   the offered equation, if there is one
+-- Assumes nothing: these are definitions.
+use mathlib.Core.Option.{Option, none, some}
+use Prim.Native.Nat.{ℕ}
+use Rattle.graph.specs.State.{Equation, equationOf}
+use Rattle.graph.specs.Goals.{Judgement, passed, refused, clash-goal, cycle-goal, same-goal, below-goal}
+use Rattle.graph.specs.Goals as goals
+use Rattle.graph.specs.Book as book
+use Rattle.unifier.specs.declared.Reply.{Reply}
+use Rattle.unifier.specs.declared.Reply.the-variants.{Node, Held, Gone, Refused, Clash, Cycle}
+use Rattle.unifier.specs.declared.CheckReply.{CheckReply}
+use Rattle.unifier.specs.declared.CheckReply.the-variants as check
+use Rattle.unifier.specs.declared.Workspace.{Workspace}
+use Rattle.unifier.specs.declared.Outcome.{Outcome}
+use Rattle.unifier.specs.declared.Compared.{Compared}
+use Rattle.unifier.specs.declared.Comparison.{Comparison}
+use Rattle.unifier.specs.declared.Classified.{Classified}
+use Rattle.unifier.specs.declared.ClassReply.{ClassReply}
+use Rattle.unifier.specs.declared.Checked.{Checked}
+use Rattle.unifier.specs.declared.Goal.{Goal}
+use Rattle.unifier.specs.declared.Goal.the-variants as goal
+use Rattle.unifier.specs.declared.Offer.{Offer}
+use Rattle.unifier.specs.declared.Offer.the-variants as offer
+
+abbrev pub said : Reply → book.Reply
+said (Node i) = book.number i
+said Held = book.held
+said Gone = book.gone
+said (Refused k) = book.refused k
+said (Clash n) = book.refused 8
+said (Cycle n) = book.refused 9
+
+abbrev pub judged : CheckReply → Judgement
+judged check.Passed = passed
+judged (check.Refused k) = refused k 0
+judged (check.Broken i) = refused 12 i
+
+abbrev pub goalOf : Goal → goals.Goal
+goalOf goal.Clash = clash-goal
+goalOf goal.Cycle = cycle-goal
+goalOf (goal.Same u v) = same-goal u v
+goalOf (goal.Below u v) = below-goal u v
+
+abbrev pub offerOf : Offer → Option Equation
+offerOf offer.Nothing = none
+offerOf (offer.Equation n u v) = some (equationOf n u v)
+
+-- ---- replies beside a workspace
+
+abbrev pub outcome : Reply → Workspace → Outcome
+outcome r w = record { reply = r; workspace = w }
+
+abbrev pub compared : Comparison → Workspace → Compared
+compared r w = record { reply = r; workspace = w }
+
+abbrev pub classified : ClassReply → Workspace → Classified
+classified r w = record { reply = r; workspace = w }
+
+abbrev pub checked : CheckReply → Workspace → Checked
+checked r w = record { reply = r; workspace = w }

@@ -1,0 +1,273 @@
+// The workspace and its calls. No call asks anything of its caller: whatever is handed in gets a reply.
+ghost use mathlib.Core.Path.{_≡_};
+ghost use lib.ListN.{length};
+ghost use Rattle.graph.specs.State.{variable, functor};
+ghost use Rattle.graph.specs.Book as book;
+ghost use Rattle.examine.specs.Examines.{Examines};
+ghost use Rattle.unifier.specs.Views.{freshWorkspace, Valid};
+ghost use Rattle.unifier.specs.Replies.{outcome, classified};
+ghost use Rattle.unifier.specs.Inner.{Classed};
+ghost use Rattle.unifier.specs.Answers.{Answers};
+ghost use Rattle.unifier.specs.Class.{Classifies};
+
+mod check; // the calls of these names
+mod compare;
+mod equate;
+
+use examine::Examined;
+use store::Equations;
+use store::Removed;
+use store::Terms;
+
+pub struct Workspace {
+    pub terms: Terms,
+    pub equations: Equations,
+}
+
+// What declare, equate and withdraw reply. A clash and a cycle, refusals 8 and 9, have the number of proof lines.
+pub enum Reply {
+    Node(u8),
+    Held,
+    Gone,
+    Refused(u8),
+    Clash(u16),
+    Cycle(u16),
+}
+
+pub struct Outcome {
+    pub reply: Reply,
+    pub workspace: Workspace,
+}
+
+// How two nodes stand, with the number of proof lines.
+pub enum Comparison {
+    Same(u16),
+    Below(u16),
+    Above(u16),
+    Apart,
+    Refused(u8),
+}
+
+pub struct Compared {
+    pub reply: Comparison,
+    pub workspace: Workspace,
+}
+
+// The lowest node of a class, and how many nodes it has.
+pub enum ClassReply {
+    Class(u8, u8),
+    Refused(u8),
+}
+
+pub struct Classified {
+    pub reply: ClassReply,
+    pub workspace: Workspace,
+}
+
+// An equation offered beside the held ones: name, left, right.
+pub enum Offer {
+    Nothing,
+    Equation(u16, u16, u16),
+}
+
+// What a proof is to show.
+pub enum Goal {
+    Clash,
+    Cycle,
+    Same(u16, u16),
+    Below(u16, u16),
+}
+
+// Refusal 12 has the line.
+pub enum CheckReply {
+    Passed,
+    Refused(u8),
+    Broken(u16),
+}
+
+pub struct Checked {
+    pub reply: CheckReply,
+    pub workspace: Workspace,
+}
+
+impl Workspace {
+    pub fn fresh() -> Workspace
+        ensures { λ r. ⌜ r ≡ freshWorkspace ⌝ }
+    {
+        let terms = Terms::fresh();
+        let equations = Equations::fresh();
+        Workspace {
+            terms: terms,
+            equations: equations,
+        }
+    }
+
+    // Accepts any value.
+    pub fn clear(self) -> Workspace
+        ensures { λ r. ⌜ r ≡ freshWorkspace ⌝ }
+    {
+        Workspace::fresh()
+    }
+
+    // Whether this is a workspace, with its class table and trace.
+    fn examined(self, trace: &mut [u16; 64]) -> Examined
+        requires { ⌜ length (now trace) ≡ 64 ⌝ }
+        ensures { λ r. ⌜ Examines (self .terms) (self .equations) (now (trace .exit)) r ⌝ }
+    {
+        let t = self.terms;
+        let e = self.equations;
+        let n = t.count;
+        let m = e.count;
+        examine::examine(
+            trace,
+            n,
+            &t.kind,
+            &t.symbol,
+            &t.arity,
+            &t.child,
+            m,
+            &e.name,
+            &e.left,
+            &e.right,
+        )
+    }
+
+    fn refuse(self, number: u8) -> Outcome
+        ensures { λ r. ⌜ r ≡ outcome (Reply.Refused number) self ⌝ }
+    {
+        Outcome {
+            reply: Reply::Refused(number),
+            workspace: self,
+        }
+    }
+
+    fn put_variable(mut self) -> Outcome
+        requires { ⌜ Valid self ⌝ }
+        ensures { λ r. ⌜ Answers self (book.declare variable) r ⌝ }
+    {
+        let t = self.terms;
+        let n = t.count;
+        if 64 <= n {
+            return self.refuse(2);
+        }
+        let more = t.put_variable();
+        self.terms = more;
+        Outcome {
+            reply: Reply::Node(n as u8),
+            workspace: self,
+        }
+    }
+
+    pub fn declare_variable(self) -> Outcome
+        ensures { λ r. ⌜ Answers self (book.declare variable) r ⌝ }
+    {
+        let mut trace = [0u16; 64];
+        let x = self.examined(&mut trace);
+        if x.valid {
+            return self.put_variable();
+        }
+        self.refuse(1)
+    }
+
+    fn put_functor(mut self, symbol: u16, children: &[u16]) -> Outcome
+        requires { ⌜ Valid self ⌝ }
+        ensures { λ r. ⌜ Answers self (book.declare (functor symbol (now (children .entry)))) r ⌝ }
+    {
+        let t = self.terms;
+        let n = t.count;
+        if 64 <= n {
+            return self.refuse(2);
+        }
+        if 4 < children.len() {
+            return self.refuse(3);
+        }
+        if store::all_below(children, n as u16) {
+            let more = t.put_functor(symbol, children);
+            self.terms = more;
+            return Outcome {
+                reply: Reply::Node(n as u8),
+                workspace: self,
+            };
+        }
+        self.refuse(4)
+    }
+
+    pub fn declare_functor(self, symbol: u16, children: &[u16]) -> Outcome
+        ensures { λ r. ⌜ Answers self (book.declare (functor symbol (now (children .entry)))) r ⌝ }
+    {
+        let mut trace = [0u16; 64];
+        let x = self.examined(&mut trace);
+        if x.valid {
+            return self.put_functor(symbol, children);
+        }
+        self.refuse(1)
+    }
+
+    fn remove(mut self, name: u16) -> Outcome
+        requires { ⌜ Valid self ⌝ }
+        ensures { λ r. ⌜ Answers self (book.withdraw name) r ⌝ }
+    {
+        let e = self.equations;
+        let r = e.remove(name);
+        if r.found {
+            let rest = r.equations;
+            self.equations = rest;
+            return Outcome {
+                reply: Reply::Gone,
+                workspace: self,
+            };
+        }
+        self.refuse(10)
+    }
+
+    pub fn withdraw(self, name: u16) -> Outcome
+        ensures { λ r. ⌜ Answers self (book.withdraw name) r ⌝ }
+    {
+        let mut trace = [0u16; 64];
+        let x = self.examined(&mut trace);
+        if x.valid {
+            return self.remove(name);
+        }
+        self.refuse(1)
+    }
+
+    fn refuse_class(self, number: u8) -> Classified
+        ensures { λ r. ⌜ r ≡ classified (ClassReply.Refused number) self ⌝ }
+    {
+        Classified {
+            reply: ClassReply::Refused(number),
+            workspace: self,
+        }
+    }
+
+    fn class_in(self, table: [u8; 64], u: u16) -> Classified
+        requires { ⌜ Classed self table ⌝ }
+        ensures { λ r. ⌜ Classifies self u r ⌝ }
+    {
+        let t = self.terms;
+        let n = t.count;
+        let x = u as usize;
+        if n <= x {
+            return self.refuse_class(4);
+        }
+        let c = table[x];
+        let low = classes::lowest(table, c);
+        let size = classes::size(table, c);
+        Classified {
+            reply: ClassReply::Class(low as u8, size as u8),
+            workspace: self,
+        }
+    }
+
+    pub fn class_of(self, u: u16) -> Classified
+        ensures { λ r. ⌜ Classifies self u r ⌝ }
+    {
+        let mut trace = [0u16; 64];
+        let x = self.examined(&mut trace);
+        if x.valid {
+            let table = x.table;
+            return self.class_in(table, u);
+        }
+        self.refuse_class(1)
+    }
+}
