@@ -6,7 +6,7 @@ use mathlib.Core.Path.{_≡_}
 use mathlib.Core.Bool.{true, false}
 use mathlib.Core.List.{List}
 use Prim.Native.Nat.{ℕ}
-use lib.ListN.{length, take}
+use lib.ListN.{take}
 use Rattle.graph.specs.Solution.{Solution}
 use Rattle.store.specs.Views.{stateOf}
 use Rattle.store.specs.Shape.{Shape}

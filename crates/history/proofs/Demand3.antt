@@ -3,7 +3,7 @@ use mathlib.Core.Path.{_≡_, refl, sym, ap, _∙_, subst}
 use mathlib.Core.List.{List, [], _∷_, map}
 use Prim.Native.Nat.{ℕ}
 use lib.ListN.{length}
-use Rattle.graph.specs.State.{State, Equation, emptyState}
+use Rattle.graph.specs.State.{State, emptyState}
 use Rattle.graph.specs.Solution.{Solution}
 use Rattle.graph.specs.Book as book
 use Rattle.unifier.specs.Views.{Valid, stateOf, packed, freshWorkspace}
@@ -12,8 +12,8 @@ use Rattle.unifier.specs.Answers.{Follows}
 use Rattle.unifier.specs.Equate.{Equates}
 use Rattle.unifier.specs.declared.Workspace.{Workspace}
 use Rattle.unifier.specs.declared.Outcome.{Outcome}
-use Rattle.history.specs.Calls.{Call, Result, cleared, Ran, variable-declared, functor-declared, equation-offered, withdrawn, all-cleared, RanAll, over, next, workspaceOf, lastOf, fed, saidOf}
-use Rattle.history.specs.History.{Proved, Agrees, AllAgree, none-left, one-more, Ready, Decided, Faithful, Demand3}
+use Rattle.history.specs.Calls.{Call, Result, Ran, variable-declared, functor-declared, equation-offered, withdrawn, all-cleared, RanAll, over, next, workspaceOf, lastOf, fed, saidOf}
+use Rattle.history.specs.History.{Proved, Agrees, AllAgree, none-left, one-more, Ready, Decided, Demand3}
 use Rattle.unifier.proofs.PackedLaws.{fresh-valid, fresh-state, fresh-packed}
 use Rattle.history.proofs.Decides.{shown-by, packed-lists, decides}
 

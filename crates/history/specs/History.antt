@@ -21,7 +21,6 @@ use Rattle.lines.specs.Proof.{ProofIn}
 use Rattle.unifier.specs.Views.{Valid, stateOf, packed, freshWorkspace}
 use Rattle.unifier.specs.Equate.{Equates}
 use Rattle.unifier.specs.Check.{checkReply}
-use Rattle.unifier.specs.declared.Workspace.{Workspace}
 use Rattle.unifier.specs.declared.Outcome.{Outcome}
 use Rattle.unifier.specs.declared.Reply.{Reply}
 use Rattle.unifier.specs.declared.Reply.the-variants.{Node, Held, Gone, Refused, Clash, Cycle}

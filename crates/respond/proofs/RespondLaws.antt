@@ -2,9 +2,8 @@
 use mathlib.Core.Path.{_≡_, refl, sym, ap, subst}
 use mathlib.Core.List.{List}
 use Prim.Native.Nat.{ℕ, _≤_, _<_}
-use native.Mathlib.Omega.{arith}
 use lib.ListN.{length, take}
-use Rattle.graph.specs.State.{State, stateWith, functor, equationOf, offered, IsNode}
+use Rattle.graph.specs.State.{State, stateWith, equationOf, offered}
 use Rattle.graph.specs.Closure.{Below}
 use Rattle.graph.specs.Goals.{clash-goal, cycle-goal}
 use Rattle.graph.proofs.ListLaws.{found-lt}

@@ -5,7 +5,6 @@ use mathlib.Core.List.{List}
 use Prim.Native.Nat.{ℕ, _≤_, _<_}
 use native.Mathlib.Omega.{arith}
 use lib.ListN.{length, getD, take}
-use Rattle.graph.specs.State.{State, IsNode}
 use Rattle.graph.specs.Closure.{Same, Below}
 use Rattle.graph.specs.Goals.{same-goal, below-goal}
 use Rattle.lines.specs.Proof.{ProofIn}
@@ -14,8 +13,7 @@ use Rattle.store.specs.declared.Terms.{Terms}
 use Rattle.store.specs.declared.Equations.{Equations}
 use Rattle.store.proofs.ViewLaws.{node-in}
 use Rattle.classes.specs.Table.{class, Table}
-use Rattle.classes.specs.Exact.{Exact}
-use Rattle.trace.specs.Nodes.{Nodes, Formed}
+use Rattle.trace.specs.Nodes.{Formed}
 use Rattle.trace.proofs.NodeLaws.{known, formed}
 use Rattle.descent.specs.Search.{Reached}
 use Rattle.descent.proofs.SearchLaws.{searched}

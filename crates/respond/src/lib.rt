@@ -1,5 +1,4 @@
 // The verdict on an offered equation, and how two nodes stand, each with its proof in a lent buffer.
-ghost use mathlib.Core.Path.{_≡_};
 ghost use Prim.Native.Nat.{_≤_, _<_};
 ghost use lib.ListN.{length};
 ghost use Rattle.store.specs.Views.{terms, equations, stateOf};

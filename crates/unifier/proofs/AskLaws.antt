@@ -1,14 +1,12 @@
 -- Compare, class and check, which leave the workspace: a law for each way out. Assumes nothing.
-use mathlib.Core.Path.{_≡_, refl, sym, _∙_}
-use mathlib.Core.Bool.{Bool, true, false, _&&_}
+use mathlib.Core.Path.{_≡_, refl}
 use mathlib.Core.List.{List}
 use mathlib.Core.Option.{Option, none, some}
 use Prim.Native.Nat.{ℕ, _≤_, _<_}
 use lib.ListN.{length}
-use lib.Dec.{ltb}
 use borrow.Author.Tests.{lt-ltb, le-ltb}
-use Rattle.graph.specs.State.{State, Equation}
-use Rattle.graph.specs.Goals.{Goal, Judgement, refused}
+use Rattle.graph.specs.State.{Equation}
+use Rattle.graph.specs.Goals.{Goal}
 use Rattle.classes.specs.Members.{ClassOf}
 use Rattle.store.proofs.ViewLaws.{nodes-length}
 use Rattle.unifier.specs.Views.{stateOf, Valid}
@@ -19,7 +17,6 @@ use Rattle.unifier.specs.Check.{checkReply, Checks}
 use Rattle.unifier.specs.declared.Workspace.{Workspace}
 use Rattle.unifier.specs.declared.Comparison.{Comparison}
 use Rattle.unifier.specs.declared.Comparison.the-variants as comparison
-use Rattle.unifier.specs.declared.ClassReply.{ClassReply}
 use Rattle.unifier.specs.declared.ClassReply.the-variants as class
 use Rattle.unifier.specs.declared.CheckReply.{CheckReply}
 use Rattle.unifier.specs.declared.CheckReply.the-variants as check

@@ -1,12 +1,12 @@
 -- The lines that a call left, handed to check: it passes them. Assumes nothing.
 use mathlib.Core.Path.{_≡_, refl, sym, ap, _∙_, subst}
-use mathlib.Core.Bool.{Bool, true, false, not, _&&_, _||_, cond}
+use mathlib.Core.Bool.{Bool, true, false, not, _||_, cond}
 use mathlib.Core.List.{List, [], _∷_, _++_}
 use mathlib.Core.Option.{Option, none, some}
 use Prim.Native.Nat.{ℕ, _+_, _*_, _/_, _%_, _≤_, _<_}
 use native.Mathlib.Omega.{arith}
 use native.Mathlib.Nat.{mul-div-right}
-use lib.ListN.{length, take, getD, length-append}
+use lib.ListN.{length, take, length-append}
 use lib.Seq.{getD-take, length-take-le}
 use lib.Dec.{eqb, ltb, leb}
 use borrow.Author.Tests.{eq-eqb, ne-eqb, lt-ltb, le-ltb, lt-leb, le-leb, ltb-true, ltb-false}
@@ -15,7 +15,7 @@ use Rattle.graph.specs.Goals.{Goal, clash-goal, cycle-goal, same-goal, below-go
 use Rattle.graph.specs.Lines.{Line, Claim, Checked, all, broken, onAll, more, claimOf, checked}
 use Rattle.graph.proofs.BoolLaws.{and-left, and-right}
 use Rattle.graph.proofs.TabLaws.{tab-length, tab-same}
-use Rattle.lines.specs.Codec.{two, lineFrom, lineAt, firstLines, linesOf}
+use Rattle.lines.specs.Codec.{lineFrom, lineAt, firstLines, linesOf}
 use Rattle.lines.specs.Proof.{ProofIn}
 use Rattle.checker.specs.Answers.{badLength, judgedAs, answerTo}
 use Rattle.checker.specs.declared.Judged.{Judged}

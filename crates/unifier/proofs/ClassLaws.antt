@@ -1,12 +1,11 @@
 -- The class reply, from the class table. Assumes nothing.
-use mathlib.Core.Path.{_≡_, refl, sym, ap₂, subst}
+use mathlib.Core.Path.{_≡_}
 use mathlib.Core.Bool.{Bool, true, false}
 use mathlib.Core.List.{List}
-use Prim.Native.Nat.{ℕ, zero, suc, _+_, _≤_, _<_}
+use Prim.Native.Nat.{ℕ, zero, suc, _≤_, _<_}
 use native.Mathlib.Omega.{arith}
-use lib.ListN.{length}
 use Rattle.classes.specs.Table.{class}
-use Rattle.classes.specs.Members.{inClass, digit, sizeOf, lowestFrom, ClassOf, Alone}
+use Rattle.classes.specs.Members.{inClass, digit, sizeOf, lowestFrom}
 use Rattle.classes.proofs.MemberLaws.{lowest-class, class-of}
 use Rattle.store.proofs.ViewLaws.{nodes-length}
 use Rattle.unifier.specs.Views.{stateOf}

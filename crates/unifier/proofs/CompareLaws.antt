@@ -1,19 +1,16 @@
 -- Compare past its refusals: what the search asks, and the reply to each case. Assumes nothing.
-use mathlib.Core.Path.{_≡_, refl, subst}
+use mathlib.Core.Path.{_≡_, subst}
 use mathlib.Core.List.{List}
-use mathlib.Core.Option.{none, some}
 use Prim.Native.Nat.{ℕ, _≤_, _<_}
-use native.Mathlib.Omega.{arith}
 use lib.ListN.{length}
 use borrow.Author.Tests.{lt-ltb, le-ltb}
 use Rattle.store.proofs.ViewLaws.{nodes-length, shape-proper}
-use Rattle.examine.specs.Examines.{Solved}
 use Rattle.respond.specs.Stands as respond
 use Rattle.respond.specs.declared.Standing.{Standing}
 use Rattle.respond.specs.declared.Standing.the-variants as standing
 use Rattle.unifier.specs.Views.{stateOf, Valid}
 use Rattle.unifier.specs.Replies.{compared}
-use Rattle.unifier.specs.Compare.{refusalOf, Stands, same, below, above, apart, Compares}
+use Rattle.unifier.specs.Compare.{Stands, same, below, above, apart, Compares}
 use Rattle.unifier.specs.Inner.{Comparing}
 use Rattle.unifier.specs.declared.Workspace.{Workspace}
 use Rattle.unifier.specs.declared.Comparison.{Comparison}

@@ -1,7 +1,7 @@
 -- Equate past its early refusals: what the verdict asks, and the reply to each. Assumes nothing.
-use mathlib.Core.Path.{_≡_, refl, sym, ap, subst}
+use mathlib.Core.Path.{_≡_, refl, ap, subst}
 use mathlib.Core.Bool.{Bool, true, false, _&&_, cond}
-use mathlib.Core.List.{List, [], _∷_, _++_}
+use mathlib.Core.List.{List}
 use mathlib.Core.Option.{Option, none, some}
 use Prim.Native.Nat.{ℕ, _≤_, _<_}
 use native.Mathlib.Omega.{arith}
@@ -9,7 +9,6 @@ use lib.ListN.{length}
 use lib.Dec.{ltb, leb}
 use borrow.Author.Tests.{ltb-true, ltb-false, leb-false}
 use Rattle.graph.specs.State.{State, stateWith, Equation, nameHeld, offered}
-use Rattle.graph.specs.Book as book
 use Rattle.graph.proofs.BoolLaws.{and-left, and-right}
 use Rattle.store.specs.Views.{nodesOf, equationsOf}
 use Rattle.store.specs.Operations.{PutsEquation}

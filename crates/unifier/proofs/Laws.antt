@@ -1,20 +1,19 @@
 -- What a call gives back is what it promises: a law for each way out. Assumes nothing.
-use mathlib.Core.Path.{_≡_, refl, sym, ap, ap₂, _∙_, subst}
-use mathlib.Core.Bool.{Bool, true, false, _&&_, cond}
+use mathlib.Core.Path.{_≡_, refl, sym, ap, _∙_, subst}
+use mathlib.Core.Bool.{true, false}
 use mathlib.Core.List.{List, [], _∷_, _++_}
 use mathlib.Core.Option.{Option, none, some}
 use Prim.Native.Nat.{ℕ, _+_, _≤_, _<_}
 use native.Mathlib.Omega.{arith}
 use lib.ListN.{length}
-use lib.Dec.{eqb, ltb}
+use lib.Dec.{eqb}
 use borrow.Author.Tests.{ne-eqb, le-leb, lt-leb, lt-ltb, le-ltb}
-use Rattle.graph.specs.State.{Node, variable, functor, Equation, State, stateWith, emptyState, nameHeld, offered}
+use Rattle.graph.specs.State.{Node, variable, functor, Equation, stateWith, nameHeld, offered}
 use Rattle.graph.specs.Solution.{Solution}
 use Rattle.graph.specs.Verdict.{Verdict}
 use Rattle.graph.specs.Goals.{clash-goal, cycle-goal}
 use Rattle.graph.specs.Book as book
-use Rattle.graph.proofs.StateLaws.{declare-accepted, solution-empty, solution-declared, solution-removed}
-use Rattle.graph.proofs.SolutionLaws.{solution-verdict}
+use Rattle.graph.proofs.StateLaws.{declare-accepted, solution-declared, solution-removed}
 use Rattle.lines.specs.Proof.{ProofIn}
 use Rattle.store.specs.Views.{nodesOf, equationsOf}
 use Rattle.store.specs.Shape.{TermsShape, EquationsShape, Shape}
@@ -29,7 +28,6 @@ use Rattle.unifier.specs.Answers.{Follows, Answers}
 use Rattle.unifier.specs.Equate.{Equates}
 use Rattle.unifier.specs.declared.Workspace.{Workspace}
 use Rattle.unifier.specs.declared.Outcome.{Outcome}
-use Rattle.unifier.specs.declared.Reply.{Reply}
 use Rattle.unifier.specs.declared.Reply.the-variants as says
 use Rattle.unifier.proofs.PackedLaws.{repacked}
 

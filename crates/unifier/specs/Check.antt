@@ -3,14 +3,14 @@
 -- and offered equations together.
 -- Assumes nothing: these are definitions.
 use mathlib.Core.Path.{_≡_}
-use mathlib.Core.Bool.{Bool, true, false, not, _&&_, cond}
+use mathlib.Core.Bool.{Bool, true, not, _&&_, cond}
 use mathlib.Core.List.{List}
 use mathlib.Core.Option.{Option, none, some}
-use Prim.Native.Nat.{ℕ, _<_}
+use Prim.Native.Nat.{ℕ}
 use lib.ListN.{length}
 use lib.Dec.{ltb}
 use Rattle.graph.specs.State.{State, Equation, nameHeld, offered}
-use Rattle.graph.specs.Goals.{Goal, clash-goal, cycle-goal, same-goal, below-goal, Judgement, passed, refused}
+use Rattle.graph.specs.Goals.{Goal, clash-goal, cycle-goal, same-goal, below-goal, Judgement, refused}
 use Rattle.checker.specs.Answers.{answerTo}
 use Rattle.unifier.specs.Views.{stateOf, Valid}
 use Rattle.unifier.specs.Replies.{judged}

@@ -1,17 +1,16 @@
 -- What the calls' inner functions ask of each other.
---   Classed   a workspace and the class table of its closure
---   Offering  a solved workspace, and an equation that none of 5, 4, 6 and 7 refuses
+--   Classed    a workspace and the class table of its closure
+--   Early      the number of the first refusal that the two lists decide, 0 where they decide none
+--   Offering   a solved workspace, and an equation that none of 5, 4, 6 and 7 refuses
 --   Comparing  a solved workspace, two known nodes and a buffer that is long enough
---   Reported  only refusal 12 has a line, and its number fits 16 bits
---   Checking  an offer and a goal with known nodes and a new name
---   Early     the number of the first refusal that the two lists decide, 0 where they decide none
+--   Reported   only refusal 12 has a line, and its number fits 16 bits
+--   Checking   an offer and a goal with known nodes and a new name
 -- Assumes nothing: these are definitions.
 use mathlib.Core.Path.{_≡_}
 use mathlib.Core.List.{List}
 use mathlib.Core.Option.{Option, none, some}
 use Prim.Native.Nat.{ℕ, _≤_, _<_}
 use mathlib.Core.Bool.{true}
-use lib.ListN.{length}
 use Rattle.graph.specs.State.{Equation}
 use Rattle.graph.specs.Goals.{Goal, Judgement, passed, refused}
 use Rattle.classes.specs.Table.{Table}

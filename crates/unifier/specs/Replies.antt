@@ -3,9 +3,9 @@
 --   judged    the checker's reply: passed, or its number with, for 12, the line
 --   goalOf    the goal, by graph's
 --   offerOf   the offered equation, if there is one
+--   outcome, compared, classified, checked   a reply beside a workspace
 -- Assumes nothing: these are definitions.
 use mathlib.Core.Option.{Option, none, some}
-use Prim.Native.Nat.{ℕ}
 use Rattle.graph.specs.State.{Equation, equationOf}
 use Rattle.graph.specs.Goals.{Judgement, passed, refused, clash-goal, cycle-goal, same-goal, below-goal}
 use Rattle.graph.specs.Goals as goals

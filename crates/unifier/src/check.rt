@@ -1,7 +1,6 @@
 // Check: refusals 1, 4 and 6, then the checker's own.
 ghost use mathlib.Core.Bool.{true};
 ghost use mathlib.Core.Path.{_≡_};
-ghost use Prim.Native.Nat.{_≤_};
 ghost use Rattle.graph.specs.State.{State};
 ghost use Rattle.claims.specs.Claims as claims;
 ghost use Rattle.checker.specs.Answers as answers;

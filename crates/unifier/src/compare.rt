@@ -1,6 +1,6 @@
 // Compare: refusals 1, 5 and 4, then how two nodes stand.
 ghost use mathlib.Core.Path.{_≡_};
-ghost use Prim.Native.Nat.{_≤_, _<_};
+ghost use Prim.Native.Nat.{_<_};
 ghost use lib.ListN.{length};
 ghost use Rattle.examine.specs.Examines.{Solved};
 ghost use Rattle.unifier.specs.Replies.{compared};

@@ -1,5 +1,4 @@
 // Equate: refusals 1, 5, 4, 6 and 7, then the verdict on held and offered equations together.
-ghost use mathlib.Core.Path.{_≡_};
 ghost use lib.ListN.{length};
 ghost use Rattle.graph.specs.State.{equationOf};
 ghost use Rattle.graph.specs.Book as book;

@@ -16,7 +16,6 @@ mod equate;
 
 use examine::Examined;
 use store::Equations;
-use store::Removed;
 use store::Terms;
 
 pub struct Workspace {
@@ -174,18 +173,18 @@ impl Workspace {
         ensures { λ r. ⌜ Answers self (book.declare (functor symbol (now (children .entry)))) r ⌝ }
     {
         let t = self.terms;
-        let n = t.count;
-        if 64 <= n {
+        let count = t.count;
+        if 64 <= count {
             return self.refuse(2);
         }
         if 4 < children.len() {
             return self.refuse(3);
         }
-        if store::all_below(children, n as u16) {
+        if store::all_below(children, count as u16) {
             let more = t.put_functor(symbol, children);
             self.terms = more;
             return Outcome {
-                reply: Reply::Node(n as u8),
+                reply: Reply::Node(count as u8),
                 workspace: self,
             };
         }

@@ -13,7 +13,7 @@ refuse-class-requires c κs = search needs
 returns : tie.Need-returns
 returns c =
     let s = c .before .before .before in
-    rw (c .refuse-class .ensures) (class-unknown (s .args .self) (s .args .u) (s .pre .valid) (c .before .if1 .taken))
+    rw (c .refuse-class .ensures) (class-unknown (s .args .self) (s .args .u) (s .pre .valid) (omega (arith, c .before .if1 .taken)))
 
 array-read-c : tie.Need-array-read-c
 array-read-c c = search needs

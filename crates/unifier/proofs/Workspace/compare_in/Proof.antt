@@ -1,4 +1,5 @@
 -- `Workspace::compare_in` meets its contract. Assumes nothing.
+use native.Mathlib.Omega.{arith}
 use borrow.Author.Needs.{needs}
 use Rattle.unifier.proofs.Laws.{solved-valid}
 use Rattle.unifier.proofs.CompareLaws.{refused-short, refused-left, refused-right}
@@ -12,7 +13,7 @@ returns : tie.Need-returns
 returns c =
     let s = c .before .before .before in
     let a = s .args in
-    rw (c .refuse-comparison .ensures) (refused-short (a .self) (a .u) (a .v) (a .proof .now) (solved-valid _ _ _ _ (s .pre)) (c .before .if1 .taken))
+    rw (c .refuse-comparison .ensures) (refused-short (a .self) (a .u) (a .v) (a .proof .now) (solved-valid _ _ _ _ (s .pre)) (omega (arith, c .before .if1 .taken)))
 
 refuse-comparison-requires-2 : tie.Need-refuse-comparison-requires-2
 refuse-comparison-requires-2 c κs = search needs
@@ -21,7 +22,7 @@ returns-2 : tie.Need-returns-2
 returns-2 c =
     let s = c .before .before .before .before .before in
     let a = s .args in
-    rw (c .refuse-comparison2 .ensures) (refused-left (a .self) (a .u) (a .v) (a .proof .now) (solved-valid _ _ _ _ (s .pre)) (c .before .before .before .if1 .left) (c .before .if2 .taken))
+    rw (c .refuse-comparison2 .ensures) (refused-left (a .self) (a .u) (a .v) (a .proof .now) (solved-valid _ _ _ _ (s .pre)) (c .before .before .before .if1 .left) (omega (arith, c .before .if2 .taken)))
 
 refuse-comparison-requires-3 : tie.Need-refuse-comparison-requires-3
 refuse-comparison-requires-3 c κs = search needs
@@ -30,10 +31,10 @@ returns-3 : tie.Need-returns-3
 returns-3 c =
     let s = c .before .before .before .before .before .before in
     let a = s .args in
-    rw (c .refuse-comparison3 .ensures) (refused-right (a .self) (a .u) (a .v) (a .proof .now) (solved-valid _ _ _ _ (s .pre)) (c .before .before .before .before .if1 .left) (c .before .before .if2 .left) (c .before .if3 .taken))
+    rw (c .refuse-comparison3 .ensures) (refused-right (a .self) (a .u) (a .v) (a .proof .now) (solved-valid _ _ _ _ (s .pre)) (c .before .before .before .before .if1 .left) (c .before .before .if2 .left) (omega (arith, c .before .if3 .taken)))
 
 stand-requires : tie.Need-stand-requires
-stand-requires c κs = record { solved = c .before .before .before .before .before .before .pre; left-known = c .before .before .if2 .left; right-known = c .before .if3 .left; room = c .before .before .before .before .if1 .left }
+stand-requires c κs = record { solved = c .before .before .before .before .before .before .pre; left-known = omega (arith, c .before .before .if2 .left); right-known = omega (arith, c .before .if3 .left); room = omega (arith, c .before .before .before .before .if1 .left) }
 
 same-length : tie.Need-same-length
 same-length c = search needs

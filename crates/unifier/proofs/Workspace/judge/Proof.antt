@@ -1,7 +1,5 @@
 -- `Workspace::judge` meets its contract: the checker's answer is the reply. Assumes nothing.
 use mathlib.Core.Path.{ap₂, _∙_}
-use mathlib.Core.List.{List}
-use Prim.Native.Nat.{ℕ}
 use Rattle.graph.specs.State.{State}
 use Rattle.graph.specs.Goals.{Goal}
 use Rattle.claims.proofs.FitLaws.{shape-fit}

@@ -1,4 +1,5 @@
 -- `Workspace::put_functor` meets its contract. Assumes nothing.
+use native.Mathlib.Omega.{arith}
 use borrow.Author.Needs.{needs}
 use mathlib.Core.Path.{sym, _∙_}
 use Rattle.graph.specs.State.{functor}
@@ -13,7 +14,7 @@ returns : tie.Need-returns
 returns c =
     let s = c .before .before .before .before in
     let a = s .args in
-    rw (c .refuse .ensures) (refused-full (a .self) (functor (a .symbol) (a .children .now)) (s .pre) (c .before .if1 .taken))
+    rw (c .refuse .ensures) (refused-full (a .self) (functor (a .symbol) (a .children .now)) (s .pre) (omega (arith, c .before .if1 .taken)))
 
 refuse-requires-2 : tie.Need-refuse-requires-2
 refuse-requires-2 c κs = search needs
@@ -22,7 +23,7 @@ returns-2 : tie.Need-returns-2
 returns-2 c =
     let s = c .before .before .before .before .before in
     let a = s .args in
-    rw (c .refuse2 .ensures) (refused-many (a .self) (a .symbol) (a .children .now) (c .before .before .if1 .left) (s .pre) (c .before .if2 .taken))
+    rw (c .refuse2 .ensures) (refused-many (a .self) (a .symbol) (a .children .now) (omega (arith, c .before .before .if1 .left)) (s .pre) (omega (arith, c .before .if2 .taken)))
 
 cast-all-below : tie.Need-cast-all-below
 cast-all-below c = search needs

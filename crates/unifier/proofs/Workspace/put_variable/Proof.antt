@@ -1,4 +1,5 @@
 -- `Workspace::put_variable` meets its contract. Assumes nothing.
+use native.Mathlib.Omega.{arith}
 use borrow.Author.Needs.{needs}
 use Rattle.graph.specs.State.{variable}
 use Rattle.unifier.proofs.Laws.{refused-full, declared, variable-early}
@@ -11,7 +12,7 @@ refuse-requires c κs = search needs
 returns : tie.Need-returns
 returns c =
     let s = c .before .before .before in
-    rw (c .refuse .ensures) (refused-full (s .args .self) variable (s .pre) (c .before .if1 .taken))
+    rw (c .refuse .ensures) (refused-full (s .args .self) variable (s .pre) (omega (arith, c .before .if1 .taken)))
 
 put-variable-requires : tie.Need-put-variable-requires
 put-variable-requires c κs = search needs
@@ -24,7 +25,7 @@ returns-2 c =
     let s = c .before .before .before in
     let p = c .put-variable .ensures in
     let h = s .pre .shape .terms in
-    declared (s .args .self) variable (s .pre) (c .put-variable .result) (p .nodes h) (p .count) (p .shape h) (variable-early (s .args .self) (c .before .if1 .left))
+    declared (s .args .self) variable (s .pre) (c .put-variable .result) (p .nodes h) (p .count) (p .shape h) (variable-early (s .args .self) (omega (arith, c .before .if1 .left)))
 
 pub put-variable-spec : {M : Type 1} → statement M
 put-variable-spec =
