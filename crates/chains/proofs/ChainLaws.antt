@@ -1,7 +1,7 @@
 -- What each run of lines of a chain adds. Assumes nothing.
-use mathlib.Core.Path.{_≡_, refl, sym, _∙_}
+use mathlib.Core.Path.{_≡_, refl}
 use mathlib.Core.List.{List}
-use Prim.Native.Nat.{ℕ, suc, _+_, _-_, _≤_, _<_}
+use Prim.Native.Nat.{ℕ, _+_, _-_, _≤_, _<_}
 use native.Mathlib.Omega.{arith}
 use native.Mathlib.Numerals.{add-one}
 use lib.ListN.{getD}
@@ -19,15 +19,16 @@ less-one : (n m : ℕ) → m ≡ n + 1 → m - 1 ≡ n
 less-one n m e = omega arith
 
 module _ {buf one : List ℕ} {n i j k q p r place : ℕ} (e : r ≡ p) (P : Put buf n (line 2 place r 0) one) where
-  pub descended-child : k ≡ q → Descended buf n i j k q p place one (n + 1)
-  descended-child d =
-      record {
+  pub descended-child : {m : ℕ} → k ≡ q → m ≡ n + 1 → Descended buf n i j k q p place one m
+  descended-child d z =
+      rw z
+      (record {
         low = omega arith;
         high = omega arith;
         kept = kept-put refl P;
         more = λ s cs x w hi hj hc.
             rw (less-one n (n + 1) refl, ← d) (written-more s refl w (rw e at P) (claim-child s cs p place k hc));
-      }
+      })
 
   pub descended-same : {two out : List ℕ} → Linked one (n + 1) i j two → Put two (n + 3) (line 5 0 n (n + 2)) out → Descended buf n i j k q p place out (n + 4)
   descended-same {two} K Q =

@@ -119,7 +119,7 @@ pub record Ascended (buf : List ℕ) (n : ℕ) (t to parent place into : List �
 -- by the first l entries of a trace, and the way down from u
 pub record Lowered (nodes : ℕ) (name left right child trace : List ℕ) (l : ℕ) (t parent place into level buf : List ℕ) (u v : ℕ) (out : List ℕ) (m : ℕ) : Type 0 where
   pub some-lines : 1 ≤ m
-  pub high : m ≤ nodes + 70 * l + 322
+  pub high : m ≤ nodes + 2716
   pub kept : Kept m buf out
   pub shown : (s : State) → Describes nodes name left right child s → Traced s (take l trace) t → Edges s t parent place into level → IsNode s u → IsNode s v
       → Concludes s (below u v) m out

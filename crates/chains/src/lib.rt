@@ -1,7 +1,7 @@
 // Lines that end in u below v: from v back up to u, a step down at a time. For each node, `to` has the number of a line that
 // claims the node same its class number; `parent`, `place`, `into` and `level` say how each class was reached from u: see `descent`.
 ghost use mathlib.Core.Path.{_≡_};
-ghost use Prim.Native.Nat.{ℕ, _+_, _-_, _*_, _≤_, _<_};
+ghost use Prim.Native.Nat.{ℕ, _+_, _-_, _≤_, _<_};
 ghost use lib.ListN.{length, getD};
 ghost use Rattle.classes.specs.Table.{Table};
 ghost use Rattle.descent.specs.Reach.{levelOf, Ways};

@@ -1,14 +1,15 @@
 -- What each entry adds to the lines, and all of them. Assumes nothing.
 use mathlib.Core.Path.{_≡_, refl, sym, _∙_, subst}
 use mathlib.Core.List.{List}
-use Prim.Native.Nat.{ℕ, _+_, _*_, _-_, _/_, _%_, _≤_, _<_}
+use Prim.Native.Nat.{ℕ, _+_, _*_, _/_, _%_, _≤_, _<_}
 use native.Mathlib.Omega.{arith}
 use native.Mathlib.Numerals.{add-one}
 use lib.ListN.{length, getD, take}
 use lib.Seq.{length-take-le, take-suc, take-take, getD-take}
 use Rattle.graph.specs.State.{State, IsNode}
 use Rattle.graph.specs.Lines.{same}
-use Rattle.classes.specs.Table.{class, Fresh, Merged}
+use Rattle.classes.specs.Table.{class, Fresh, Merged, sumTo}
+use Rattle.classes.proofs.SumLaws.{sum-none, sum-more}
 use Rattle.trace.specs.Trace.{Reason, Traced, start, merge}
 use Rattle.trace.proofs.TraceLaws.{reason-known}
 use Rattle.trace.proofs.ReplayLaws as tr
@@ -16,6 +17,7 @@ use Rattle.lines.specs.Codec.{line, Put}
 use Rattle.pen.specs.Written.{Claimed, Written}
 use Rattle.pen.specs.Runs.{Pen, Linked, Started, Rewired}
 use Rattle.pen.proofs.Claims.{claim-equation, claim-down, written-more, concludes, kept-put, kept-kept, kept-none}
+use Rattle.pen.proofs.SizeLaws.{grows, fresh-count, one-fewer}
 use Rattle.pen.proofs.RunLaws.{started-pen}
 use Rattle.trim.specs.Entries.{endAt, Ends}
 use Rattle.trim.specs.Trim.{Trimmed}
@@ -33,6 +35,7 @@ module _ {name buf from : List ℕ} {n nodes : ℕ} {t : List ℕ} {e a b : ℕ}
       record {
         low = omega (arith, R .low);
         high = omega (arith, R .high);
+        tight = omega (arith, R .tight);
         kept = kept-kept {n = n + 1} (R .low) (kept-put refl P) (R .kept);
         size = R .size;
         more = λ s N w p.
@@ -48,6 +51,7 @@ module _ {name buf from : List ℕ} {n nodes : ℕ} {t : List ℕ} {e a b : ℕ}
       record {
         low = omega (arith, R .low);
         high = omega (arith, R .high);
+        tight = omega (arith, R .tight);
         kept = kept-kept {n = n + 3} (R .low) (kept-kept {n = n + 2} (omega arith) (K .kept) (kept-put (omega arith) P)) (R .kept);
         size = R .size;
         more = λ s N w p.
@@ -61,6 +65,14 @@ module _ {name buf from : List ℕ} {n nodes : ℕ} {t : List ℕ} {e a b : ℕ}
       }
 
 -- ---- a trace
+
+-- the lines of at most 63 entries
+pub rising : (k : ℕ) → k ≤ 63 → 7 * k + sumTo (λ i. i) k ≤ 2394
+unfolding sumTo
+rising k h = omega (arith, grows (λ i. i) k 63 h, all)
+  where
+    all : sumTo (λ i. i) 63 ≡ 1953
+    all = refl
 
 pub pen-cong : {s : State} {c d : ℕ → ℕ} {to buf : List ℕ} {n : ℕ} → ((x : ℕ) → IsNode s x → c x ≡ d x) → Pen s c to buf n → Pen s d to buf n
 pen-cong {to = to} f p =
@@ -103,9 +115,10 @@ module _ {nodes : ℕ} {name left right child trace : List ℕ} {l : ℕ} {buf f
   retracing-none F h =
       record {
         low = omega arith;
-        high = omega arith;
+        high = omega (arith, sum-none (λ i. i));
         kept = kept-none n;
         size = h;
+        classes = omega (arith, fresh-count _ F);
         made = made-none F;
         more = λ s r D T. pen-cong (λ x k. sym (F .alone x (omega (arith, k, D .ends .limited .fits))));
       }
@@ -118,9 +131,10 @@ module _ {nodes : ℕ} {name left right child trace : List ℕ} {l : ℕ} {buf f
     retracing-more {new} {ends} {r} {w} {a} {b} h g ea eb S M =
         record {
           low = omega (arith, R .low, S .low);
-          high = omega (arith, R .high, S .high);
+          high = omega (arith, R .high, S .tight, R .classes, sum-more (λ i. i) k);
           kept = kept-kept {n = m} (S .low) (R .kept) (S .kept);
           size = S .size;
+          classes = omega (arith, R .classes, one-fewer t r a b M);
           made = made-more (R .made) h g ea eb M;
           more = λ s q D T p.
               pen-cong (λ x i. sym (M .entry x (omega (arith, i, D .ends .limited .fits))))
@@ -131,7 +145,7 @@ module _ {nodes : ℕ} {name left right child trace : List ℕ} {l : ℕ} {buf f
     retraced q =
         record {
           low = R .low;
-          high = omega (arith, R .high);
+          high = rw q at (R .high);
           kept = R .kept;
           size = R .size;
           more = λ s r D T p.
@@ -142,11 +156,11 @@ module _ {nodes : ℕ} {name left right child trace : List ℕ} {l : ℕ} {buf f
 -- ---- the entries that a goal needs
 
 pub prepared : {nodes : ℕ} {name left right child trace few buf one out from to : List ℕ} {l k m u v n : ℕ} {xs ys : List ℕ}
-    → Trimmed left right child trace l u v xs ys n few k → Started buf nodes one from → Retraced nodes name left right child few one from nodes k out to m
+    → l ≤ 63 → Trimmed left right child trace l u v xs ys n few k → Started buf nodes one from → Retraced nodes name left right child few one from nodes k out to m
     → Prepared nodes name left right child trace l buf u v xs ys n out to m
-prepared {nodes} T S R =
+prepared {nodes} {k = k} h T S R =
     record {
-      high = omega (arith, R .high, T .less);
+      high = omega (arith, R .high, rising k (omega (arith, T .less)));
       kept = kept-kept {n = nodes} (R .low) (S .kept) (R .kept);
       size = R .size;
       ready = λ s D J.

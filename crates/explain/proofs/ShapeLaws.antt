@@ -1,5 +1,5 @@
 -- Arrays of the right shape describe the state that they hold. Assumes nothing.
-use mathlib.Core.Path.{_≡_, refl, sym, _∙_, ap}
+use mathlib.Core.Path.{_≡_, refl, ap}
 use mathlib.Core.List.{List}
 use mathlib.Core.Option.{some}
 use Prim.Native.Nat.{ℕ, zero, suc, _≤_, _<_}
@@ -7,12 +7,12 @@ use native.Mathlib.Omega.{arith}
 use lib.ListN.{length, getElem?, getD, take}
 use lib.Seq.{length-take-le}
 use borrow.Author.Tests.{eq-eqb, ne-eqb}
-use Rattle.graph.specs.State.{functor, Equation, State, NodeAt, ChildAt}
-use Rattle.graph.specs.Lines.{same, named, byEquation, claimOfEquation}
+use Rattle.graph.specs.State.{functor, Equation, NodeAt, ChildAt}
+use Rattle.graph.specs.Lines.{same, named, byEquation}
 use Rattle.graph.specs.Tab.{tab}
 use Rattle.store.specs.declared.Terms.{Terms}
 use Rattle.store.specs.declared.Equations.{Equations}
-use Rattle.store.specs.Views.{arityAt, childAt, childrenAt, equationAt, equationsOf, stateOf}
+use Rattle.store.specs.Views.{arityAt, childAt, equationAt, equationsOf, stateOf}
 use Rattle.store.specs.Shape.{Shape, EquationsShape}
 use Rattle.trace.specs.Trace.{Traced}
 use Rattle.trace.proofs.TraceLaws.{traced-most}

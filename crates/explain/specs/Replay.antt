@@ -15,7 +15,7 @@ use Prim.Native.Nat.{ℕ, _+_, _*_, _≤_}
 use lib.ListN.{length, getD, getElem?, take}
 use Rattle.graph.specs.State.{Equation, State, IsNode}
 use Rattle.graph.specs.Lines.{same, byEquation}
-use Rattle.classes.specs.Table.{class, Table, mergedClass}
+use Rattle.classes.specs.Table.{class, Table, mergedClass, sumTo, classCount}
 use Rattle.trace.specs.Trace.{Reason, Traced}
 use Rattle.trim.specs.Entries.{Limited, Ends}
 use Rattle.trim.specs.Trim.{Pairs, Joined}
@@ -35,14 +35,15 @@ pub record Describes (nodes : ℕ) (name left right child : List ℕ) (s : State
 pub record Stepped (name buf from : List ℕ) (n nodes : ℕ) (t : List ℕ) (e a b : ℕ) (out to : List ℕ) (m : ℕ) : Type 0 where
   pub low : n ≤ m
   pub high : m ≤ n + 70
+  pub tight : m + classCount t ≤ n + 71
   pub kept : Kept m buf out
   pub size : length to ≡ 64
   pub more : (s : State) → Names nodes name s → Reason s t e a b → Pen s (class t) from buf n → Pen s (mergedClass (class t) a b) to out m
 
--- from a line for each node to itself on
+-- from a line for each node to itself on: an entry with k before it takes at most k + 7 lines
 pub record Retraced (nodes : ℕ) (name left right child trace : List ℕ) (buf from : List ℕ) (n k : ℕ) (out to : List ℕ) (m : ℕ) : Type 0 where
   pub low : n ≤ m
-  pub high : m ≤ n + 70 * k
+  pub high : m ≤ n + 7 * k + sumTo (λ i. i) k
   pub kept : Kept m buf out
   pub size : length to ≡ 64
   pub more : (s : State) (t : List ℕ) → Describes nodes name left right child s → Traced s (take k trace) t → Pen s (λ x. x) from buf n → Pen s (class t) to out m
@@ -54,9 +55,10 @@ pub record Made (left right child trace : List ℕ) (l k : ℕ) (t : List ℕ) :
 
 pub record Retracing (nodes : ℕ) (name left right child trace : List ℕ) (l : ℕ) (buf from : List ℕ) (n k : ℕ) (t out to : List ℕ) (m : ℕ) : Type 0 where
   pub low : n ≤ m
-  pub high : m ≤ n + 70 * k
+  pub high : m ≤ n + 7 * k + sumTo (λ i. i) k
   pub kept : Kept m buf out
   pub size : length to ≡ 64
+  pub classes : 64 ≤ classCount t + k
   pub made : Made left right child trace l k t
   pub more : (s : State) (r : List ℕ) → Describes nodes name left right child s → Traced s (take l trace) r → Pen s (λ x. x) from buf n → Pen s (class t) to out m
 
@@ -69,7 +71,7 @@ pub record Ready (s : State) (u v : ℕ) (xs ys : List ℕ) (n : ℕ) (out to : 
 
 -- where the first l entries join all, there is one
 pub record Prepared (nodes : ℕ) (name left right child trace : List ℕ) (l : ℕ) (buf : List ℕ) (u v : ℕ) (xs ys : List ℕ) (n : ℕ) (out to : List ℕ) (m : ℕ) : Type 0 where
-  pub high : m ≤ nodes + 70 * l
+  pub high : m ≤ nodes + 2394
   pub kept : Kept m buf out
   pub size : length to ≡ 64
   pub ready : (s : State) → Describes nodes name left right child s → Joined s (take l trace) u v xs ys n → Ready s u v xs ys n out to m
@@ -82,6 +84,6 @@ pub record OneClass (s : State) (es : List ℕ) (u v : ℕ) : Type 0 where
 
 pub record Explained (nodes : ℕ) (name left right child trace : List ℕ) (k : ℕ) (buf : List ℕ) (u v : ℕ) (out : List ℕ) (m : ℕ) : Type 0 where
   pub some-lines : 1 ≤ m
-  pub high : m ≤ nodes + 70 * k + 2
+  pub high : m ≤ nodes + 2396
   pub kept : Kept m buf out
   pub shown : (s : State) → Describes nodes name left right child s → OneClass s (take k trace) u v → IsNode s u → IsNode s v → Concludes s (same u v) m out

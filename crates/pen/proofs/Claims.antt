@@ -1,10 +1,9 @@
 -- What each rule's line claims, and lists of lines with one more. Assumes nothing.
-use mathlib.Core.Path.{_≡_, refl, ap, _∙_}
+use mathlib.Core.Path.{_≡_, refl, _∙_}
 use mathlib.Core.List.{List, [], _∷_, _++_}
 use mathlib.Core.Option.{some}
 use Prim.Native.Nat.{ℕ, zero, suc, _+_, _*_, _≤_, _<_}
 use native.Mathlib.Omega.{arith}
-use native.Mathlib.Numerals.{add-one}
 use lib.ListN.{length, getD, length-append}
 use borrow.Author.Tests.{eq-eqb, lt-ltb}
 use Rattle.graph.specs.State.{State, IsNode}
@@ -13,7 +12,7 @@ use Rattle.graph.specs.Goals.{ends, lastOf}
 use Rattle.graph.proofs.CheckerLaws.{checked-claim}
 use Rattle.graph.proofs.ListLaws.{found-append, found-last}
 use Rattle.graph.proofs.TabLaws.{tab-none, tab-one-more, tab-same}
-use Rattle.lines.specs.Codec.{two, lineFrom, lineAt, firstLines, line, Put}
+use Rattle.lines.specs.Codec.{lineAt, firstLines, line, Put}
 use Rattle.lines.specs.Proof.{Kept, Concludes}
 use Rattle.pen.specs.Written.{Claimed, Written, More}
 

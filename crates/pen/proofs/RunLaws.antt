@@ -12,14 +12,17 @@ use borrow.Author.Tests.{eq-eqb, ne-eqb, le-leb, lt-leb}
 use Rattle.graph.specs.State.{State, IsNode}
 use Rattle.graph.specs.Lines.{Line, Claim, same}
 use Rattle.classes.specs.Table.{class}
+use Rattle.classes.proofs.SumLaws.{sum-none, sum-more}
 use Rattle.lines.specs.Codec.{line, Put}
 use Rattle.lines.specs.Proof.{Kept}
 use Rattle.pen.specs.Written.{Claimed}
-use Rattle.pen.specs.Runs.{Pen, Linked, Bridged, BridgedBack, Started, Absorbed, Rewired}
+use Rattle.pen.specs.Runs.{inClass, Pen, Linked, Bridged, BridgedBack, Started, Absorbed, Rewired}
+use Rattle.pen.proofs.SizeLaws.{class-size}
 use Rattle.pen.proofs.Claims.{claim-reflexivity, claim-symmetry, claim-transitivity, written-none, written-more, more-more, kept-put, kept-kept, kept-none}
 
-pub link : {buf mid out : List ℕ} {n i j x y : ℕ} → Put buf n (line 4 0 j 0) mid → Put mid x (line 5 0 i y) out → x ≡ n + 1 → y ≡ n → Linked buf n i j out
-link {buf} {mid} {out} {n} {i} {j} {x} {y} P R ex ey =
+pub link : {buf mid out : List ℕ} {n i j x y z : ℕ} → Put buf n (line 4 0 z 0) mid → Put mid x (line 5 0 i y) out → z ≡ j → x ≡ n + 1 → y ≡ n → Linked buf n i j out
+link {buf} {mid} {out} {n} {i} {j} {x} {y} {z} O R ez ex ey =
+    let P : Put buf n (line 4 0 j 0) mid = (rw ez at O) in
     let Q : Put mid (n + 1) (line 5 0 i n) out = (rw (ex, ey) at R) in
     record {
       kept = kept-kept {n = n + 1} (omega arith) (kept-put refl P) (kept-put (omega arith) Q);
@@ -96,6 +99,7 @@ module _ {buf from : List ℕ} {n nodes : ℕ} {t : List ℕ} {keep gone l : ℕ
       record {
         low = omega arith;
         high = omega arith;
+        tight = omega (arith, sum-none (inClass t gone));
         kept = kept-none n;
         size = e;
         more = λ s cs h w N L. record { claims = cs; written = w; bridge = L; done = λ i k. absurd (omega arith); rest = λ i k. N i };
@@ -107,6 +111,7 @@ module _ {buf from : List ℕ} {n nodes : ℕ} {t : List ℕ} {keep gone l : ℕ
         record {
           low = A .low;
           high = omega (arith, A .high);
+          tight = omega (arith, A .tight, sum-more (inClass t gone) x);
           kept = A .kept;
           size = A .size;
           more = λ s cs h w N L.
@@ -122,12 +127,14 @@ module _ {buf from : List ℕ} {n nodes : ℕ} {t : List ℕ} {keep gone l : ℕ
               };
         }
 
-    pub absorbed-take : {new : List ℕ} → x < nodes → nodes ≤ 64 → class t x ≡ gone → Put out m (line 5 0 (getD to x 0) l) new
-        → Absorbed buf from n nodes t keep gone l (x + 1) new (set to x m) (m + 1)
-    absorbed-take {new} hx hn e P =
-        record {
+    pub absorbed-take : {new : List ℕ} {y : ℕ} → x < nodes → nodes ≤ 64 → class t x ≡ gone → Put out m (line 5 0 (getD to x 0) l) new → y ≡ m
+        → Absorbed buf from n nodes t keep gone l (x + 1) new (set to x y) (m + 1)
+    absorbed-take {new} hx hn e P f =
+        rw f
+        (record {
           low = omega (arith, A .low);
           high = omega (arith, A .high);
+          tight = (let one : inClass t gone x ≡ 1 = (rw (eq-eqb (class t x) gone e)) in omega (arith, A .tight, sum-more (inClass t gone) x));
           kept = kept-kept {n = m} (omega arith) (A .kept) (kept-put refl P);
           size = length-set to x m ∙ A .size;
           more = λ s cs h w N L.
@@ -146,7 +153,7 @@ module _ {buf from : List ℕ} {n nodes : ℕ} {t : List ℕ} {keep gone l : ℕ
                     (λ k. rw (eq-eqb (class t x) gone e, getD-set-same to x m 0 (omega (arith, A .size))) (u .last));
                 rest = λ i k g. other i _ (λ q. omega (arith, q)) (B .rest i (omega arith) g);
               };
-        }
+        })
 
     pub absorbed-all : {y : ℕ} → x ≡ y → Absorbed buf from n nodes t keep gone l y out to m
     absorbed-all e = rw e at A
@@ -160,6 +167,7 @@ module _ {buf mid out from to : List ℕ} {n nodes : ℕ} {t : List ℕ} {l a b 
       record {
         low = omega (arith, A .low);
         high = omega (arith, A .high);
+        tight = omega (arith, A .tight, class-size t (class t b) nodes hn);
         kept = kept-kept {n = n + 3} (A .low) (B .kept) (A .kept);
         size = A .size;
         more = λ s cs e ha hb w N L.
@@ -174,6 +182,7 @@ module _ {buf mid out from to : List ℕ} {n nodes : ℕ} {t : List ℕ} {l a b 
       record {
         low = omega (arith, A .low);
         high = omega (arith, A .high);
+        tight = omega (arith, A .tight, class-size t (class t a) nodes hn);
         kept = kept-kept {n = n + 3} (A .low) (B .kept) (A .kept);
         size = A .size;
         more = λ s cs e ha hb w N L.

@@ -1,4 +1,5 @@
 -- What each run of lines adds to those in the buffer.
+--   inClass        how many nodes of a class there are is a sum of these
 --   Numbers, Pen   for each node x a line that claims x same c x
 --   Linked         p same q, from p same x and q same x
 --   Bridged        x same y, from a same b, a same x and b same y; BridgedBack: y same x
@@ -15,9 +16,13 @@ use lib.ListN.{length, getD}
 use lib.Dec.{eqb}
 use Rattle.graph.specs.State.{State, IsNode}
 use Rattle.graph.specs.Lines.{Claim, same}
-use Rattle.classes.specs.Table.{class, mergedClass}
+use Rattle.classes.specs.Table.{class, mergedClass, sumTo, classCount}
 use Rattle.lines.specs.Proof.{Kept}
 use Rattle.pen.specs.Written.{Claimed, Written, More}
+
+-- 1 where node i is in class c
+abbrev pub inClass : List ℕ → ℕ → ℕ → ℕ
+inClass t c i = cond (eqb (class t i) c) 1 0
 
 -- for each node x a line that claims x same c x
 abbrev pub Numbers : State → List Claim → (ℕ → ℕ) → List ℕ → Type 0
@@ -63,6 +68,7 @@ pub record Absorbing (s : State) (c : ℕ → ℕ) (keep gone l x : ℕ) (out to
 pub record Absorbed (buf from : List ℕ) (n nodes : ℕ) (t : List ℕ) (keep gone l x : ℕ) (out to : List ℕ) (m : ℕ) : Type 0 where
   pub low : n ≤ m
   pub high : m ≤ n + x
+  pub tight : m ≤ n + sumTo (inClass t gone) x
   pub kept : Kept m buf out
   pub size : length to ≡ 64
   pub more : (s : State) (cs : List Claim) → length (s .nodes) ≡ nodes → Written s buf n cs → Numbers s cs (class t) from
@@ -72,6 +78,7 @@ pub record Absorbed (buf from : List ℕ) (n nodes : ℕ) (t : List ℕ) (keep g
 pub record Rewired (buf from : List ℕ) (n nodes : ℕ) (t : List ℕ) (l a b : ℕ) (out to : List ℕ) (m : ℕ) : Type 0 where
   pub low : n ≤ m
   pub high : m ≤ n + 67
+  pub tight : m + classCount t ≤ n + 68
   pub kept : Kept m buf out
   pub size : length to ≡ 64
   pub more : (s : State) (cs : List Claim) → length (s .nodes) ≡ nodes → IsNode s a → IsNode s b → Written s buf n cs → Numbers s cs (class t) from

@@ -1,7 +1,7 @@
-// The pen: runs of proof lines that turn, join and extend what the lines before them claim. For each node, `to` has the
+// Runs of proof lines that extend what the lines before them claim, by symmetry and transitivity. For each node, `to` has the
 // number of a line that claims the node same its class number.
 ghost use mathlib.Core.Path.{_≡_};
-ghost use Prim.Native.Nat.{ℕ, _+_, _*_, _≤_, _<_};
+ghost use Prim.Native.Nat.{_+_, _≤_, _<_};
 ghost use lib.ListN.{length};
 ghost use Rattle.pen.specs.Runs.{Linked, Bridged, BridgedBack, Started, Absorbed, Rewired};
 

@@ -2,7 +2,7 @@
 use mathlib.Core.Path.{_≡_, refl, sym, _∙_}
 use mathlib.Core.Bool.{Bool, true, false, not}
 use mathlib.Core.List.{List}
-use Prim.Native.Nat.{ℕ, _+_, _-_, _/_, _%_, _≤_, _<_}
+use Prim.Native.Nat.{ℕ, _+_, _/_, _%_, _≤_, _<_}
 use native.Mathlib.Omega.{arith}
 use native.Mathlib.Numerals.{add-one}
 use lib.ListN.{length, getD, set, take, length-set}
@@ -10,9 +10,9 @@ use lib.Seq.{take-suc, getD-set-same, getD-set-other}
 use borrow.Author.Count.{below-more}
 use Rattle.graph.specs.State.{State}
 use Rattle.classes.specs.Table.{class, Fresh, Merged}
-use Rattle.trace.specs.Trace.{Reason, Traced, start, merge}
-use Rattle.trim.specs.Entries.{endAt, InRange, AllInRange, Ends, Together, Stands, AllStand}
-use Rattle.trim.specs.Trim.{Pairs, Joined, Rebuilt, Rejoins, Among, Trimmed}
+use Rattle.trace.specs.Trace.{Reason, start, merge}
+use Rattle.trim.specs.Entries.{endAt, AllInRange, Together, AllStand}
+use Rattle.trim.specs.Trim.{Pairs, Rebuilt, Rejoins, Among, Trimmed}
 use Rattle.trim.proofs.EntryLaws.{entry-ends, trace-stands}
 
 pub passed : (b : Bool) → not b ≡ false → b ≡ true

@@ -4,7 +4,6 @@ ghost use mathlib.Core.Path.{_≡_};
 ghost use mathlib.Core.Bool.{true};
 ghost use Prim.Native.Nat.{ℕ, _-_, _/_, _%_, _≤_, _<_};
 ghost use lib.ListN.{length, getD};
-ghost use Rattle.classes.specs.Table.{class};
 ghost use Rattle.trim.specs.Entries.{endAt, AllInRange, Together};
 ghost use Rattle.trim.specs.Trim.{Pairs, Rejoins, Among, Trimmed};
 

@@ -3,7 +3,7 @@ use mathlib.Core.Path.{refl}
 use mathlib.Core.List.{List}
 use Prim.Native.Nat.{ℕ, _≤_, _<_}
 use native.Mathlib.Omega.{arith}
-use lib.ListN.{length, take}
+use lib.ListN.{take}
 use Rattle.graph.specs.State.{State}
 use Rattle.graph.specs.Closure.{Below}
 use Rattle.graph.specs.Lines.{same, below}
@@ -22,7 +22,7 @@ use Rattle.descent.proofs.SearchLaws.{searched}
 use Rattle.lines.specs.Proof.{ProofIn}
 use Rattle.pen.proofs.GoalLaws.{proof, shows-same, shows-below, shows-cycle, shows-clash}
 use Rattle.explain.specs.Replay.{OneClass, Explained}
-use Rattle.explain.proofs.ShapeLaws.{shape-describes, shape-steps}
+use Rattle.explain.proofs.ShapeLaws.{shape-describes}
 use Rattle.chains.specs.Chain.{Lowered}
 use Rattle.writer.specs.Writer.{Shows, Solved, Differ}
 
@@ -55,16 +55,16 @@ module _ (g : Terms) (q : Equations) (S : Shape g q) where
       pub below-reached : (v : ℕ) → Below (stateOf g q) u v → 1 ≤ levelOf t level v
       below-reached v = down .complete v
 
-  module _ (trace : List ℕ) (n : ℕ) (h : n ≤ length trace) (u v : ℕ) (hu : u < g .count) (hv : v < g .count) {buf out : List ℕ} {m : ℕ} where
+  module _ (trace : List ℕ) (n u v : ℕ) (hu : u < g .count) (hv : v < g .count) {buf out : List ℕ} {m : ℕ} where
     pub shown-same : OneClass (stateOf g q) (take n trace) u v
         → Explained (g .count) (q .name) (q .left) (q .right) (g .child) trace n buf u v out m → Shows (stateOf g q) (same u v) m buf out
     shown-same J E =
-        proof (stateOf g q) (E .some-lines) (omega (arith, E .high, S .terms .few, shape-steps g q S trace n h (J .table) (J .traced))) (E .kept)
+        proof (stateOf g q) (E .some-lines) (omega (arith, E .high, S .terms .few)) (E .kept)
         (E .shown (stateOf g q) (shape-describes g q S) J (node-in g q u hu) (node-in g q v hv))
 
     pub shown-below : {t parent place into level : List ℕ} → Solved (stateOf g q) (take n trace) t → Reached g t parent place into level u
         → Lowered (g .count) (q .name) (q .left) (q .right) (g .child) trace n t parent place into level buf u v out m
         → Shows (stateOf g q) (below u v) m buf out
     shown-below {t} T R L =
-        proof (stateOf g q) (L .some-lines) (omega (arith, L .high, S .terms .few, shape-steps g q S trace n h t (T .traced))) (L .kept)
+        proof (stateOf g q) (L .some-lines) (omega (arith, L .high, S .terms .few)) (L .kept)
         (L .shown (stateOf g q) (shape-describes g q S) (T .traced) (down T hu R .edges) (node-in g q u hu) (node-in g q v hv))

@@ -1,6 +1,6 @@
 // Proofs for the calls, from arrays of the right shape and a trace. `kind`, `symbol` and `arity` say which state the arrays hold.
 ghost use mathlib.Core.Path.{_≡_};
-ghost use Prim.Native.Nat.{ℕ, _≤_, _<_};
+ghost use Prim.Native.Nat.{_≤_, _<_};
 ghost use lib.ListN.{length, take};
 ghost use Rattle.graph.specs.Closure.{Below};
 ghost use Rattle.graph.specs.Lines.{same, below};

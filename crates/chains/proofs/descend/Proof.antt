@@ -20,7 +20,7 @@ same-length c = search needs
 returns : tie.Need-returns
 returns c =
     let q = c .before .before .before in
-    descended-child (q .before .wide .ensures) (q .put-line .ensures) (c .if1 .taken)
+    descended-child (q .before .wide .ensures) (q .put-line .ensures) (c .if1 .taken) (omega arith)
 
 add-link : tie.Need-add-link
 add-link c = search needs

@@ -1,5 +1,4 @@
 -- `chains::rise` meets its contract. Assumes nothing.
-use native.Mathlib.Omega.{arith}
 use borrow.Author.Needs.{needs}
 use Rattle.chains.proofs.ChainLaws.{risen}
 use Rattle.chains.proofs.rise.Statement.{statement}

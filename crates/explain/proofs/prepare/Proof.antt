@@ -28,7 +28,7 @@ returns : tie.Need-returns
 returns c =
     let r = c .before .before in
     let q = r .before .before .before .before .before .before in
-    prepared (q .before .before .before .before .trim .ensures) (q .start .ensures) (r .replay .ensures)
+    prepared (q .before .before .before .before .before .before .before .pre .0 .1 .0) (q .before .before .before .before .trim .ensures) (q .start .ensures) (r .replay .ensures)
 
 pub prepare-spec : {M : Type 1} → statement M
 prepare-spec =

@@ -3,7 +3,7 @@ use native.Mathlib.Omega.{arith}
 use borrow.Author.Needs.{needs}
 use Prim.Native.Nat.{_≤_, _-_}
 use Rattle.explain.specs.Replay.{Retracing}
-use Rattle.explain.proofs.RetraceLaws.{retracing-none, retracing-more, retraced}
+use Rattle.explain.proofs.RetraceLaws.{rising, retracing-none, retracing-more, retraced}
 use Rattle.explain.proofs.replay.Statement.{statement}
 use Rattle.explain.proofs.replay.Tie as tie
 
@@ -45,7 +45,7 @@ step-requires c κs =
     let S = a .before .before .before in
     let r = a .before .before .before .pre .1 .1 .1 (a .loop .k) (search needs) in
     let R = a .loop .inv .1 in (
-      (S .pre .0 .1 .0, (omega (arith, R .high), omega (arith, R .kept .size))),
+      (S .pre .0 .1 .0, (omega (arith, R .high, rising (a .loop .k) (omega (arith, S .pre .0 .1 .1 .0))), omega (arith, R .kept .size))),
       ((R .size, (rw (b .before .end-of .ensures) (r .lefts), rw (b .end-of2 .ensures) (r .rights))), r .held),
     )
 

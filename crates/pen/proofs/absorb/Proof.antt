@@ -1,11 +1,9 @@
 -- `pen::absorb` meets its contract. Assumes nothing.
 use native.Mathlib.Omega.{arith}
 use borrow.Author.Needs.{needs}
-use mathlib.Core.Path.{_≡_, refl, sym, ap, _∙_}
 use mathlib.Core.Logic.{⊎-elim}
-use Prim.Native.Nat.{ℕ, _+_, _-_, _≤_, _<_}
-use lib.ListN.{length}
-use Rattle.pen.specs.Runs.{Started, Absorbed}
+use Prim.Native.Nat.{_-_, _≤_}
+use Rattle.pen.specs.Runs.{Absorbed}
 use Rattle.pen.proofs.RunLaws.{absorbed-none, absorbed-skip, absorbed-take, absorbed-all}
 use Rattle.pen.proofs.absorb.Statement.{statement}
 use Rattle.pen.proofs.absorb.Tie as tie
@@ -54,7 +52,7 @@ loop-again c =
     let a = c .before .before in
     let A = a .loop .inv .1 in
     ⊎-elim
-    (λ w. (search needs, rw (w .6, w .7, w .8) (absorbed-take A (search needs) (search needs) (w .0 .taken) (w .3 .ensures))))
+    (λ w. (search needs, rw (w .6, w .7, w .8) (absorbed-take A (search needs) (search needs) (w .0 .taken) (w .3 .ensures) (omega arith))))
     (λ w. (search needs, rw (w .1, w .2, w .3) (absorbed-skip A (w .0 .left))))
     (c .if1 .came)
 

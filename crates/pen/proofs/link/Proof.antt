@@ -23,7 +23,7 @@ same-length c = search needs
 returns : tie.Need-returns
 returns c =
     let q = c .before .before in
-    link (q .before .before .before .before .put-line .ensures) (q .put-line2 .ensures) (omega arith) (omega arith)
+    link (q .before .before .before .before .put-line .ensures) (q .put-line2 .ensures) (omega arith) (omega arith) (omega arith)
 
 pub link-spec : {M : Type 1} → statement M
 link-spec =

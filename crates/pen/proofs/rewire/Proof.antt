@@ -1,5 +1,4 @@
 -- `pen::rewire` meets its contract. Assumes nothing.
-use native.Mathlib.Omega.{arith}
 use borrow.Author.Needs.{needs}
 use Rattle.pen.proofs.RunLaws.{rewired-up, rewired-down}
 use Rattle.pen.proofs.rewire.Statement.{statement}

@@ -1,9 +1,7 @@
 -- `pen::start` meets its contract. Assumes nothing.
 use native.Mathlib.Omega.{arith}
 use borrow.Author.Needs.{needs}
-use mathlib.Core.Path.{_≡_, refl, sym, ap, _∙_}
-use Prim.Native.Nat.{ℕ, _+_, _-_, _≤_, _<_}
-use lib.ListN.{length}
+use Prim.Native.Nat.{_-_, _≤_}
 use Rattle.pen.specs.Runs.{Started}
 use Rattle.pen.proofs.RunLaws.{started-none, started-more, started-all}
 use Rattle.pen.proofs.start.Statement.{statement}

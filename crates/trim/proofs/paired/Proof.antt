@@ -23,12 +23,14 @@ element-copy-out-if1 c = search needs
 cast-if1 : tie.Need-cast-if1 Inv-loop μ-loop
 cast-if1 c =
     let a = c .before .before in
-    omega (arith, a .before .pre .1 (a .loop .i) (search needs) .0)
+    let r = a .before .pre .1 (a .loop .i) (search needs) in
+    omega (arith, r .0, r .1)
 
 array-read-if1 : tie.Need-array-read-if1 Inv-loop μ-loop
 array-read-if1 c =
     let a = c .before .before in
-    omega (arith, a .before .pre .1 (a .loop .i) (search needs) .0)
+    let r = a .before .pre .1 (a .loop .i) (search needs) in
+    omega (arith, r .0, r .1)
 
 element-copy-out-if1-2 : tie.Need-element-copy-out-if1-2 Inv-loop μ-loop
 element-copy-out-if1-2 c = search needs
@@ -36,12 +38,14 @@ element-copy-out-if1-2 c = search needs
 cast-if1-2 : tie.Need-cast-if1-2 Inv-loop μ-loop
 cast-if1-2 c =
     let a = c .before .before .before in
-    omega (arith, a .before .pre .1 (a .loop .i) (search needs) .1)
+    let r = a .before .pre .1 (a .loop .i) (search needs) in
+    omega (arith, r .0, r .1)
 
 array-read-if1-2 : tie.Need-array-read-if1-2 Inv-loop μ-loop
 array-read-if1-2 c =
     let a = c .before .before .before in
-    omega (arith, a .before .pre .1 (a .loop .i) (search needs) .1)
+    let r = a .before .pre .1 (a .loop .i) (search needs) in
+    omega (arith, r .0, r .1)
 
 returns : tie.Need-returns Inv-loop μ-loop
 returns c = λ q. absurd (let z : _≡_ {A = ℕ} 0 1 = cc in omega arith)

@@ -1,5 +1,4 @@
 -- `trim::together` meets its contract. Assumes nothing.
-use native.Mathlib.Omega.{arith}
 use borrow.Author.Needs.{needs}
 use borrow.Author.Tests.{eqb-true}
 use Rattle.trim.proofs.together.Statement.{statement}

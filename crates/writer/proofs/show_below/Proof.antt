@@ -42,9 +42,8 @@ same-length c = search needs
 returns : tie.Need-returns
 returns c =
     let S = c .before .before .before .before .before .before .before .before .before .before .before .before .before .before in
-    let h = S .pre .1 .0 .1 in
     let K = S .pre .1 .1 .0 in
-    shown-below _ _ (S .pre .0) _ _ (omega arith) _ _ (K .0) (K .1) (S .pre .1 .1 .1 .0) (c .before .before .before .before .before .before .before .before .reach .ensures) (c .before .before .explain-below .ensures)
+    shown-below _ _ (S .pre .0) _ _ _ _ (K .0) (K .1) (S .pre .1 .1 .1 .0) (c .before .before .before .before .before .before .before .before .reach .ensures) (c .before .before .explain-below .ensures)
 
 pub show-below-spec : {M : Type 1} → statement M
 show-below-spec = tie.close (tie.spec reach-requires explain-below-requires same-length returns)

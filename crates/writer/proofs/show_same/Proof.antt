@@ -21,9 +21,8 @@ same-length c = search needs
 returns : tie.Need-returns
 returns c =
     let S = c .before .before .before .before .before in
-    let h = S .pre .1 .0 .1 in
     let K = S .pre .1 .1 .0 in
-    shown-same _ _ (S .pre .0) _ _ (omega arith) _ _ (K .0) (K .1) (S .pre .1 .1 .1) (c .before .before .explain-same .ensures)
+    shown-same _ _ (S .pre .0) _ _ _ _ (K .0) (K .1) (S .pre .1 .1 .1) (c .before .before .explain-same .ensures)
 
 pub show-same-spec : {M : Type 1} → statement M
 show-same-spec = tie.close (tie.spec explain-same-requires same-length returns)

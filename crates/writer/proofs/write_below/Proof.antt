@@ -1,5 +1,4 @@
 -- `writer::write_below` meets its contract. Assumes nothing.
-use native.Mathlib.Omega.{arith}
 use borrow.Author.Needs.{needs}
 use Rattle.writer.proofs.WriterLaws.{goal-below}
 use Rattle.writer.proofs.write_below.Statement.{statement}

@@ -1,5 +1,4 @@
 -- `writer::write_clash` meets its contract. Assumes nothing.
-use native.Mathlib.Omega.{arith}
 use borrow.Author.Needs.{needs}
 use Rattle.writer.proofs.WriterLaws.{goal-clash}
 use Rattle.writer.proofs.write_clash.Statement.{statement}

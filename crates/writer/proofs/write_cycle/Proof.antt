@@ -1,5 +1,4 @@
 -- `writer::write_cycle` meets its contract. Assumes nothing.
-use native.Mathlib.Omega.{arith}
 use borrow.Author.Needs.{needs}
 use Rattle.writer.proofs.WriterLaws.{goal-cycle}
 use Rattle.writer.proofs.write_cycle.Statement.{statement}

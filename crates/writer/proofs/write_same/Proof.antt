@@ -1,5 +1,4 @@
 -- `writer::write_same` meets its contract. Assumes nothing.
-use native.Mathlib.Omega.{arith}
 use borrow.Author.Needs.{needs}
 use Rattle.writer.proofs.WriterLaws.{goal-same}
 use Rattle.writer.proofs.write_same.Statement.{statement}
