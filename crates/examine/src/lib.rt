@@ -6,6 +6,8 @@ ghost use Rattle.store.specs.Views.{terms, equations};
 ghost use Rattle.store.specs.Shape.{Shape};
 ghost use Rattle.examine.specs.Examines.{Examines};
 use solver::Verdict;
+use store::Equations;
+use store::Terms;
 
 // Where the value is a workspace, the class table of its held equations, and how many entries its trace has.
 pub struct Examined {
@@ -78,4 +80,25 @@ pub fn examine<'a>(
         table: [0; 64],
         steps: 0,
     }
+}
+
+// The same of whole terms and equations.
+pub fn examine_parts(t: Terms, e: Equations, trace: &mut [u16; 64]) -> Examined
+    requires { ⌜ length (now trace) ≡ 64 ⌝ }
+    ensures { λ r. ⌜ Examines t e (now (trace .exit)) r ⌝ }
+{
+    let n = t.count;
+    let m = e.count;
+    examine(
+        trace,
+        n,
+        &t.kind,
+        &t.symbol,
+        &t.arity,
+        &t.child,
+        m,
+        &e.name,
+        &e.left,
+        &e.right,
+    )
 }

@@ -7,6 +7,8 @@ ghost use Rattle.trace.specs.Nodes.{Formed};
 ghost use Rattle.respond.specs.Responds.{Asked, Responds};
 ghost use Rattle.respond.specs.Stands.{Lies, Known, Stands};
 use solver::Verdict;
+use store::Equations;
+use store::Terms;
 
 // Held without a fault; a clash or a cycle with its number of lines.
 pub enum Response {
@@ -239,4 +241,82 @@ pub fn stand<'a>(
         return Standing::Above(lines as u16);
     }
     Standing::Apart
+}
+
+// `offer` on whole terms and equations: `e` held, `d` with the offered one too.
+pub fn offer_parts(
+    buf: &mut [u8],
+    table: [u8; 64],
+    trace: &mut [u16; 64],
+    steps: usize,
+    t: Terms,
+    e: Equations,
+    d: Equations,
+    left: u8,
+    right: u8,
+) -> Response
+    requires { ⌜ Asked t e d left right table (now trace) steps ⌝ }
+    requires { ⌜ 65536 ≤ length (now buf) ⌝ }
+    ensures { λ r. ⌜ Responds (stateOf t d) (now (buf .entry)) (now (buf .exit)) r ⌝ }
+{
+    let n = t.count;
+    let m = e.count;
+    let k = d.count;
+    offer(
+        buf,
+        table,
+        trace,
+        steps,
+        n,
+        &t.kind,
+        &t.symbol,
+        &t.arity,
+        &t.child,
+        m,
+        &e.name,
+        &e.left,
+        &e.right,
+        k,
+        &d.name,
+        &d.left,
+        &d.right,
+        left,
+        right,
+    )
+}
+
+// `stand` on whole terms and equations.
+pub fn stand_parts(
+    buf: &mut [u8],
+    table: [u8; 64],
+    trace: &[u16; 64],
+    steps: usize,
+    t: Terms,
+    e: Equations,
+    u: u8,
+    v: u8,
+) -> Standing
+    requires { ⌜ Known t e u v table (now trace) steps ⌝ }
+    requires { ⌜ 65536 ≤ length (now buf) ⌝ }
+    ensures { λ r. ⌜ Stands (stateOf t e) u v (now (buf .entry)) (now (buf .exit)) r ⌝ }
+{
+    let n = t.count;
+    let m = e.count;
+    stand(
+        buf,
+        table,
+        trace,
+        steps,
+        n,
+        &t.kind,
+        &t.symbol,
+        &t.arity,
+        &t.child,
+        m,
+        &e.name,
+        &e.left,
+        &e.right,
+        u,
+        v,
+    )
 }

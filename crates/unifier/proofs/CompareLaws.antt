@@ -32,9 +32,6 @@ module _ (w : Workspace) (u v : ℕ) (before : List ℕ) (ok : Valid w) where
         (rw (le-ltb (length before) 65536 long, nodes-length (w .terms), lt-ltb u (w .terms .count) l, le-ltb v (w .terms .count) h))
 
 module _ (w : Workspace) (u v : ℕ) (before table trace : List ℕ) (steps : ℕ) (c : Comparing w u v (length before) table trace steps) where
-  pub comparing-small : w .terms .count ≤ 64
-  comparing-small = c .solved .shape .terms .few
-
   pub known : respond.Known (w .terms) (w .equations) u v table trace steps
   known = record {
     shape = c .solved .shape;

@@ -36,25 +36,7 @@ impl Workspace {
     {
         let t = self.terms;
         let e = self.equations;
-        let n = t.count;
-        let m = e.count;
-        let s = respond::stand(
-            proof,
-            table,
-            trace,
-            steps,
-            n,
-            &t.kind,
-            &t.symbol,
-            &t.arity,
-            &t.child,
-            m,
-            &e.name,
-            &e.left,
-            &e.right,
-            u as u8,
-            v as u8,
-        );
+        let s = respond::stand_parts(proof, table, trace, steps, t, e, u as u8, v as u8);
         match s {
             Standing::Same(lines) => Compared {
                 reply: Comparison::Same(lines),

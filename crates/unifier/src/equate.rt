@@ -56,33 +56,10 @@ impl Workspace {
     {
         let t = self.terms;
         let e = self.equations;
-        let n = t.count;
-        let m = e.count;
         let x = left as u8;
         let y = right as u8;
         let d = e.put(name, x, y);
-        let k = d.count;
-        let r = respond::offer(
-            proof,
-            table,
-            trace,
-            steps,
-            n,
-            &t.kind,
-            &t.symbol,
-            &t.arity,
-            &t.child,
-            m,
-            &e.name,
-            &e.left,
-            &e.right,
-            k,
-            &d.name,
-            &d.left,
-            &d.right,
-            x,
-            y,
-        );
+        let r = respond::offer_parts(proof, table, trace, steps, t, e, d, x, y);
         match r {
             Response::Held => {
                 self.equations = d;

@@ -115,20 +115,7 @@ impl Workspace {
     {
         let t = self.terms;
         let e = self.equations;
-        let n = t.count;
-        let m = e.count;
-        examine::examine(
-            trace,
-            n,
-            &t.kind,
-            &t.symbol,
-            &t.arity,
-            &t.child,
-            m,
-            &e.name,
-            &e.left,
-            &e.right,
-        )
+        examine::examine_parts(t, e, trace)
     }
 
     fn refuse(self, number: u8) -> Outcome

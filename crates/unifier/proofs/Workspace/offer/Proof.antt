@@ -24,9 +24,9 @@ put-requires c κs =
     let a = s .args in
     offering-few (a .self) (equationOf (a .name) (a .left) (a .right)) (a .proof .now) (a .table) (a .trace .now) (a .steps) (s .pre)
 
-offer-requires : tie.Need-offer-requires
-offer-requires c κs =
-    let p = c .before .before .before .before .before .before .before .before .before .before .before .before .before .before .before in
+offer-parts-requires : tie.Need-offer-parts-requires
+offer-parts-requires c κs =
+    let p = c .before .before in
     let s = p .before .before .before .before in
     let a = s .args in
     (asked (a .self) (equationOf (a .name) (a .left) (a .right)) (a .proof .now) (a .table) (a .trace .now) (a .steps) (s .pre) (p .put .result) (p .put .ensures), offering-room (a .self) (equationOf (a .name) (a .left) (a .right)) (a .proof .now) (a .table) (a .trace .now) (a .steps) (s .pre))
@@ -46,10 +46,10 @@ same-length c = search needs
 returns : tie.Need-returns
 returns c =
     let o = c .before .before .before .before in
-    let p = o .before .before .before .before .before .before .before .before .before .before .before .before .before .before .before .before in
+    let p = o .before .before .before in
     let s = p .before .before .before .before in
     let a = s .args in
-    offer-held (a .self) (equationOf (a .name) (a .left) (a .right)) (a .proof .now) (a .table) (a .trace .now) (a .steps) (s .pre) (p .put .result) (p .put .ensures) _ (o .offer .result) (o .offer .ensures) (c .enum-told .given .1)
+    offer-held (a .self) (equationOf (a .name) (a .left) (a .right)) (a .proof .now) (a .table) (a .trace .now) (a .steps) (s .pre) (p .put .result) (p .put .ensures) _ (o .offer-parts .result) (o .offer-parts .ensures) (c .enum-told .given .1)
 
 same-length-2 : tie.Need-same-length-2
 same-length-2 c = search needs
@@ -57,10 +57,10 @@ same-length-2 c = search needs
 returns-2 : tie.Need-returns-2
 returns-2 c =
     let o = c .before .before .before .before .before in
-    let p = o .before .before .before .before .before .before .before .before .before .before .before .before .before .before .before .before in
+    let p = o .before .before .before in
     let s = p .before .before .before .before in
     let a = s .args in
-    offer-clash (a .self) (equationOf (a .name) (a .left) (a .right)) (a .proof .now) (a .table) (a .trace .now) (a .steps) (s .pre) (p .put .result) (p .put .ensures) _ (o .offer .result) (o .offer .ensures) _ (c .before .r .given .1)
+    offer-clash (a .self) (equationOf (a .name) (a .left) (a .right)) (a .proof .now) (a .table) (a .trace .now) (a .steps) (s .pre) (p .put .result) (p .put .ensures) _ (o .offer-parts .result) (o .offer-parts .ensures) _ (c .before .r .given .1)
 
 same-length-3 : tie.Need-same-length-3
 same-length-3 c = search needs
@@ -68,10 +68,10 @@ same-length-3 c = search needs
 returns-3 : tie.Need-returns-3
 returns-3 c =
     let o = c .before .before .before .before .before in
-    let p = o .before .before .before .before .before .before .before .before .before .before .before .before .before .before .before .before in
+    let p = o .before .before .before in
     let s = p .before .before .before .before in
     let a = s .args in
-    offer-cycle (a .self) (equationOf (a .name) (a .left) (a .right)) (a .proof .now) (a .table) (a .trace .now) (a .steps) (s .pre) (p .put .result) (p .put .ensures) _ (o .offer .result) (o .offer .ensures) _ (c .before .r2 .given .1)
+    offer-cycle (a .self) (equationOf (a .name) (a .left) (a .right)) (a .proof .now) (a .table) (a .trace .now) (a .steps) (s .pre) (p .put .result) (p .put .ensures) _ (o .offer-parts .result) (o .offer-parts .ensures) _ (c .before .r2 .given .1)
 
 pub offer-spec : {M : Type 1} → statement M
 offer-spec =
@@ -80,7 +80,7 @@ offer-spec =
     cast-x
     cast-y
     put-requires
-    offer-requires
+    offer-parts-requires
     enum-told
     enum-known-r
     enum-known-r-2

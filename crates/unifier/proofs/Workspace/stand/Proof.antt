@@ -1,25 +1,18 @@
 -- `Workspace::stand` meets its contract: by cases on the standing. Assumes nothing.
-use native.Mathlib.Omega.{arith}
 use borrow.Author.Needs.{needs}
-use Rattle.unifier.proofs.CompareLaws.{comparing-small, known, told-same, told-below, told-above, told-apart}
+use Rattle.unifier.proofs.CompareLaws.{known, told-same, told-below, told-above, told-apart}
 use Rattle.unifier.proofs.Workspace.stand.Statement.{statement}
 use Rattle.unifier.proofs.Workspace.stand.Tie as tie
 
-cast-stand : tie.Need-cast-stand
-cast-stand c =
-    let s = c .before .before .before .before .before .before .before .before .before .before .before .before .before in
-    let a = s .args in
-    omega (arith, s .pre .left-known, comparing-small (a .self) (a .u) (a .v) (a .proof .now) (a .table) (a .trace .now) (a .steps) (s .pre))
+cast-stand-parts : tie.Need-cast-stand-parts
+cast-stand-parts c = search needs
 
-cast-stand-2 : tie.Need-cast-stand-2
-cast-stand-2 c =
-    let s = c .before .before .before .before .before .before .before .before .before .before .before .before .before in
-    let a = s .args in
-    omega (arith, s .pre .right-known, comparing-small (a .self) (a .u) (a .v) (a .proof .now) (a .table) (a .trace .now) (a .steps) (s .pre))
+cast-stand-parts-2 : tie.Need-cast-stand-parts-2
+cast-stand-parts-2 c = search needs
 
-stand-requires : tie.Need-stand-requires
-stand-requires c κs =
-    let s = c .before .before .before .before .before .before .before .before .before .before .before .before .before in
+stand-parts-requires : tie.Need-stand-parts-requires
+stand-parts-requires c κs =
+    let s = c .before .before .before .before in
     let a = s .args in
     (known (a .self) (a .u) (a .v) (a .proof .now) (a .table) (a .trace .now) (a .steps) (s .pre), s .pre .room)
 
@@ -41,9 +34,9 @@ same-length c = search needs
 returns : tie.Need-returns
 returns c =
     let o = c .before .before .before .before .before in
-    let s = o .before .before .before .before .before .before .before .before .before .before .before .before .before .before in
+    let s = o .before .before .before .before .before in
     let a = s .args in
-    told-same (a .self) (a .u) (a .v) (a .proof .now) (a .table) (a .trace .now) (a .steps) (s .pre) _ (o .stand .result) (o .stand .ensures) _ (c .before .s .given .1)
+    told-same (a .self) (a .u) (a .v) (a .proof .now) (a .table) (a .trace .now) (a .steps) (s .pre) _ (o .stand-parts .result) (o .stand-parts .ensures) _ (c .before .s .given .1)
 
 same-length-2 : tie.Need-same-length-2
 same-length-2 c = search needs
@@ -51,9 +44,9 @@ same-length-2 c = search needs
 returns-2 : tie.Need-returns-2
 returns-2 c =
     let o = c .before .before .before .before .before in
-    let s = o .before .before .before .before .before .before .before .before .before .before .before .before .before .before in
+    let s = o .before .before .before .before .before in
     let a = s .args in
-    told-below (a .self) (a .u) (a .v) (a .proof .now) (a .table) (a .trace .now) (a .steps) (s .pre) _ (o .stand .result) (o .stand .ensures) _ (c .before .s2 .given .1)
+    told-below (a .self) (a .u) (a .v) (a .proof .now) (a .table) (a .trace .now) (a .steps) (s .pre) _ (o .stand-parts .result) (o .stand-parts .ensures) _ (c .before .s2 .given .1)
 
 same-length-3 : tie.Need-same-length-3
 same-length-3 c = search needs
@@ -61,9 +54,9 @@ same-length-3 c = search needs
 returns-3 : tie.Need-returns-3
 returns-3 c =
     let o = c .before .before .before .before .before in
-    let s = o .before .before .before .before .before .before .before .before .before .before .before .before .before .before in
+    let s = o .before .before .before .before .before in
     let a = s .args in
-    told-above (a .self) (a .u) (a .v) (a .proof .now) (a .table) (a .trace .now) (a .steps) (s .pre) _ (o .stand .result) (o .stand .ensures) _ (c .before .s3 .given .1)
+    told-above (a .self) (a .u) (a .v) (a .proof .now) (a .table) (a .trace .now) (a .steps) (s .pre) _ (o .stand-parts .result) (o .stand-parts .ensures) _ (c .before .s3 .given .1)
 
 same-length-4 : tie.Need-same-length-4
 same-length-4 c = search needs
@@ -71,17 +64,17 @@ same-length-4 c = search needs
 returns-4 : tie.Need-returns-4
 returns-4 c =
     let o = c .before .before .before .before in
-    let s = o .before .before .before .before .before .before .before .before .before .before .before .before .before .before in
+    let s = o .before .before .before .before .before in
     let a = s .args in
-    told-apart (a .self) (a .u) (a .v) (a .proof .now) (a .table) (a .trace .now) (a .steps) (s .pre) _ (o .stand .result) (o .stand .ensures) (c .enum-told .given .1)
+    told-apart (a .self) (a .u) (a .v) (a .proof .now) (a .table) (a .trace .now) (a .steps) (s .pre) _ (o .stand-parts .result) (o .stand-parts .ensures) (c .enum-told .given .1)
 
 pub stand-spec : {M : Type 1} → statement M
 stand-spec =
     tie.close
     (tie.spec
-    cast-stand
-    cast-stand-2
-    stand-requires
+    cast-stand-parts
+    cast-stand-parts-2
+    stand-parts-requires
     enum-known-s
     enum-known-s-2
     enum-known-s-3

@@ -1,0 +1,25 @@
+-- `answers::line` meets its contract. Assumes nothing.
+use Rattle.answers.proofs.PutLaws.{puts-line, end-taken}
+use native.Mathlib.Omega.{arith}
+use borrow.Author.Needs.{needs}
+use Rattle.answers.proofs.line.Statement.{statement}
+use Rattle.answers.proofs.line.Tie as tie
+
+put-word-requires : tie.Need-put-word-requires
+put-word-requires c κs = search needs
+
+put-names-requires : tie.Need-put-names-requires
+put-names-requires c κs = (search needs, omega (arith, c .before .before .before .before .before .before .before .before .pre .1, c .before .before .before .put-word .ensures .end))
+
+put-end-requires : tie.Need-put-end-requires
+put-end-requires c κs = let a = c .before .before .before .before .before .before .before .before .before .before .before .before .args in omega (arith, c .before .before .before .before .before .before .before .before .before .before .before .before .pre .1, c .before .before .before .before .before .before .before .put-word .ensures .end, end-taken (a .n) (a .names .now) (search needs) (c .before .before .before .put-names .ensures))
+
+same-length : tie.Need-same-length
+same-length c = search needs
+
+returns : tie.Need-returns
+returns c = let a = c .before .before .before .before .before .before .before .before .before .before .before .before .before .before .before .args in puts-line _ _ _ _ _ _ _ _ _ (c .before .before .before .before .before .before .before .before .before .before .put-word .ensures) (c .before .before .before .before .before .before .put-names .ensures) (c .before .before .put-end .ensures)
+
+pub line-spec : {M : Type 1} → statement M
+line-spec =
+    tie.close (tie.spec put-word-requires put-names-requires put-end-requires same-length returns)

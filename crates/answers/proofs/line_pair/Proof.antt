@@ -1,0 +1,25 @@
+-- `answers::line_pair` meets its contract. Assumes nothing.
+use Rattle.answers.proofs.PutLaws.{puts-line, end-pair}
+use native.Mathlib.Omega.{arith}
+use borrow.Author.Needs.{needs}
+use Rattle.answers.proofs.line_pair.Statement.{statement}
+use Rattle.answers.proofs.line_pair.Tie as tie
+
+put-word-requires : tie.Need-put-word-requires
+put-word-requires c κs = search needs
+
+put-pair-requires : tie.Need-put-pair-requires
+put-pair-requires c κs = (search needs, search needs, omega (arith, c .before .before .before .before .before .before .before .pre .2, c .before .before .before .put-word .ensures .end))
+
+put-end-requires : tie.Need-put-end-requires
+put-end-requires c κs = let a = c .before .before .before .before .before .before .before .before .before .before .before .args in omega (arith, c .before .before .before .before .before .before .before .before .before .before .before .pre .2, c .before .before .before .before .before .before .before .put-word .ensures .end, end-pair (a .x) (a .y) (c .before .before .before .put-pair .ensures))
+
+same-length : tie.Need-same-length
+same-length c = search needs
+
+returns : tie.Need-returns
+returns c = puts-line _ _ _ _ _ _ _ _ _ (c .before .before .before .before .before .before .before .before .before .before .put-word .ensures) (c .before .before .before .before .before .before .put-pair .ensures) (c .before .before .put-end .ensures)
+
+pub line-pair-spec : {M : Type 1} → statement M
+line-pair-spec =
+    tie.close (tie.spec put-word-requires put-pair-requires put-end-requires same-length returns)

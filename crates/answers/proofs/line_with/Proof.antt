@@ -1,0 +1,25 @@
+-- `answers::line_with` meets its contract. Assumes nothing.
+use Rattle.answers.proofs.PutLaws.{puts-line, end-headed}
+use native.Mathlib.Omega.{arith}
+use borrow.Author.Needs.{needs}
+use Rattle.answers.proofs.line_with.Statement.{statement}
+use Rattle.answers.proofs.line_with.Tie as tie
+
+put-word-requires : tie.Need-put-word-requires
+put-word-requires c κs = search needs
+
+put-headed-requires : tie.Need-put-headed-requires
+put-headed-requires c κs = (search needs, search needs, omega (arith, c .before .before .before .before .before .before .before .before .pre .2, c .before .before .before .put-word .ensures .end))
+
+put-end-requires : tie.Need-put-end-requires
+put-end-requires c κs = let a = c .before .before .before .before .before .before .before .before .before .before .before .before .args in omega (arith, c .before .before .before .before .before .before .before .before .before .before .before .before .pre .2, c .before .before .before .before .before .before .before .put-word .ensures .end, end-headed (a .x) (a .n) (a .names .now) (search needs) (c .before .before .before .put-headed .ensures))
+
+same-length : tie.Need-same-length
+same-length c = search needs
+
+returns : tie.Need-returns
+returns c = puts-line _ _ _ _ _ _ _ _ _ (c .before .before .before .before .before .before .before .before .before .before .put-word .ensures) (c .before .before .before .before .before .before .put-headed .ensures) (c .before .before .put-end .ensures)
+
+pub line-with-spec : {M : Type 1} → statement M
+line-with-spec =
+    tie.close (tie.spec put-word-requires put-headed-requires put-end-requires same-length returns)

@@ -1,0 +1,3 @@
+-- Answers as text.
+pub mod Text
+pub mod Puts

@@ -1,0 +1,4 @@
+// The program `eqtrace`.
+fn main() {
+    console::run();
+}

@@ -1,0 +1,2 @@
+-- What the wrappers' proofs cite.
+pub mod Laws  -- a reply by numbers

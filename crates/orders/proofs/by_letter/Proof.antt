@@ -1,0 +1,51 @@
+-- `orders::by_letter` meets its contract. Assumes nothing.
+use Rattle.orders.proofs.ParseLaws.{letter-at, letter-else}
+use native.Mathlib.Omega.{arith}
+use borrow.Author.Needs.{needs}
+use Rattle.orders.proofs.by_letter.Statement.{statement}
+use Rattle.orders.proofs.by_letter.Tie as tie
+
+functor-requires : tie.Need-functor-requires
+functor-requires c κs = search needs
+
+returns : tie.Need-returns
+returns c = letter-at _ _ _ _ (c .before .if1 .taken) (c .functor .ensures)
+
+equate-requires : tie.Need-equate-requires
+equate-requires c κs = search needs
+
+returns-2 : tie.Need-returns-2
+returns-2 c = letter-at _ _ _ _ (c .before .if2 .taken) (c .equate .ensures)
+
+withdraw-requires : tie.Need-withdraw-requires
+withdraw-requires c κs = search needs
+
+returns-3 : tie.Need-returns-3
+returns-3 c = letter-at _ _ _ _ (c .before .if3 .taken) (c .withdraw .ensures)
+
+query-requires : tie.Need-query-requires
+query-requires c κs = search needs
+
+returns-4 : tie.Need-returns-4
+returns-4 c = letter-at _ _ _ _ (c .before .if4 .taken) (c .query .ensures)
+
+plain-requires : tie.Need-plain-requires
+plain-requires c κs = search needs
+
+returns-5 : tie.Need-returns-5
+returns-5 c = letter-else _ _ _ (c .before .before .before .before .before .pre) (c .before .before .before .before .if1 .left) (c .before .before .before .if2 .left) (c .before .before .if3 .left) (c .before .if4 .left) (c .plain .ensures)
+
+pub by-letter-spec : {M : Type 1} → statement M
+by-letter-spec =
+    tie.close
+    (tie.spec
+    functor-requires
+    returns
+    equate-requires
+    returns-2
+    withdraw-requires
+    returns-3
+    query-requires
+    returns-4
+    plain-requires
+    returns-5)

@@ -1,0 +1,25 @@
+-- `orders::withdraw` meets its contract. Assumes nothing.
+use Rattle.orders.proofs.ParseLaws.{withdraw-one, withdraw-else}
+use native.Mathlib.Omega.{arith}
+use borrow.Author.Needs.{needs}
+use Rattle.orders.proofs.withdraw.Statement.{statement}
+use Rattle.orders.proofs.withdraw.Tie as tie
+
+array-read-t6 : tie.Need-array-read-t6
+array-read-t6 c = search needs
+
+plain-requires : tie.Need-plain-requires
+plain-requires c κs = search needs
+
+returns : tie.Need-returns
+returns c = withdraw-one _ _ (c .before .before .if1 .taken) (c .plain .ensures)
+
+plain-requires-2 : tie.Need-plain-requires-2
+plain-requires-2 c κs = search needs
+
+returns-2 : tie.Need-returns-2
+returns-2 c = withdraw-else _ _ (c .before .if1 .left) (c .plain2 .ensures)
+
+pub withdraw-spec : {M : Type 1} → statement M
+withdraw-spec =
+    tie.close (tie.spec array-read-t6 plain-requires returns plain-requires-2 returns-2)

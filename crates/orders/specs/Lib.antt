@@ -1,0 +1,5 @@
+-- Orders as bytes.
+pub mod Grammar
+pub mod Scan
+pub mod Input
+pub mod Parse

@@ -1,0 +1,196 @@
+-- One order carried out, from what its parts promise. Assumes nothing.
+use mathlib.Core.Path.{_≡_, refl, sym, ap, ap₂, _∙_, subst}
+use mathlib.Core.List.{List, [], _∷_}
+use mathlib.Core.Option.{Option, none, some}
+use Prim.Native.Nat.{ℕ, zero, suc, _+_, _-_, _*_, _≤_, _<_}
+use mathlib.Core.Bool.{Bool, true, false}
+use lib.Dec.{ltb}
+use borrow.Author.Tests.{ltb-true, ltb-false}
+use native.Mathlib.Omega.{arith}
+use lib.ListN.{length, getD, take, drop, List·getD-eq-default}
+use lib.Seq.{length-take-le, getD-take}
+use Rattle.graph.specs.State.{Equation, equationOf, offered, functor}
+use Rattle.graph.specs.Lines.{Line}
+use Rattle.graph.specs.Book as book
+use Rattle.lines.specs.Codec.{linesOf, firstLines}
+use Rattle.lines.specs.Proof.{ProofIn}
+use Rattle.lines.proofs.Decoding.{part-lines}
+use Rattle.cited.specs.Cited.{CitedRising}
+use Rattle.unifier.specs.Views.{Valid, stateOf}
+use Rattle.unifier.specs.Answers.{Answers}
+use Rattle.unifier.specs.Equate.{Written, Equates}
+use Rattle.unifier.specs.Compare as compare
+use Rattle.unifier.specs.declared.Workspace.{Workspace}
+use Rattle.unifier.specs.declared.Outcome.{Outcome}
+use Rattle.unifier.specs.declared.Compared.{Compared}
+use Rattle.unifier.specs.declared.Reply.{Reply}
+use Rattle.unifier.specs.declared.Reply.the-variants.{Node, Held, Gone, Refused, Clash, Cycle}
+use Rattle.unifier.specs.declared.Comparison.{Comparison}
+use Rattle.unifier.specs.declared.Comparison.the-variants as stands
+use Rattle.orders.specs.Grammar.{Order}
+use Rattle.orders.specs.Grammar as order
+use Rattle.answers.specs.Text.{Answer, refused, same, below, above}
+use Rattle.answers.specs.Puts.{meant, Says}
+use Rattle.answers.specs.declared.Answer.{Answer as Code}
+use Rattle.answers.specs.declared.Answer.the-variants as code
+use Rattle.session.specs.Carried.{plainly, Citing, Spoken, Stated, Called, Offered, Asked, Does, Carries}
+use Rattle.session.specs.Inner.{replyLines, comparisonLines, answered, compared, Means, CitesIn, Telling, Replying}
+use Rattle.session.specs.declared.Carried.{Carried}
+
+-- ---- answers
+
+pub means-reply : (x : ℕ) (a b : Reply) (r : Code) → a ≡ b → Means (answered x b) r → Means (answered x a) r
+means-reply x a b r e h = rw e h
+
+pub means-comparison : (a b : Comparison) (r : Code) → a ≡ b → Means (compared b) r → Means (compared a) r
+means-comparison a b r e h = rw e h
+
+-- ---- cited names
+
+-- rising names are no more than the list has
+rising-few : (ls : List Line) (names : List ℕ) (k : ℕ) → 1 ≤ length names → CitedRising ls names k → k ≤ length names
+rising-few ls names k h c = go (ltb (length names) k) refl
+  where
+    go : (b : Bool) → ltb (length names) k ≡ b → k ≤ length names
+    go false e = ltb-false (length names) k e
+    go true e =
+        let l : length names < k = ltb-true (length names) k e in
+        let p : getD names (length names - 1) 0 < getD names (length names) 0 = c .rising (length names - 1) (length names) (omega arith) l in
+        let q : length names ≤ length names = omega arith in
+        let z : getD names (length names) 0 ≡ 0 = List·getD-eq-default names 0 q in
+        absurd (omega (arith, p, z))
+
+pub cites-none : (n : ℕ) (bytes names : List ℕ) → n ≡ 0 → CitesIn n bytes names 0
+cites-none n bytes names e = record { few = omega arith; none = λ q. refl; some = λ q. absurd (omega arith) }
+
+pub cites-some : (n : ℕ) (bytes names : List ℕ) (k : ℕ) → (n ≡ 0 → ⊥) → 8 * n ≤ length bytes → length names ≡ 8192 → CitedRising (linesOf (take (8 * n - 0) bytes)) names k → CitesIn n bytes names k
+cites-some n bytes names k z h l d = let q : 8 * n - 0 ≡ 8 * n = omega arith in let c : CitedRising (linesOf (take (8 * n) bytes)) names k = rw q at d in record {
+  few = omega (arith, rising-few (linesOf (take (8 * n) bytes)) names k (omega arith) c, l);
+  none = λ q. absurd (z q);
+  some = λ q. subst (λ (ls : List Line). CitedRising ls names k) (part-lines n bytes h) c;
+}
+
+taken-rising : (ls : List Line) (names : List ℕ) (k : ℕ) → k ≤ length names → CitedRising ls names k → CitedRising ls (take k names) (length (take k names))
+taken-rising ls names k h c =
+    let l : length (take k names) ≡ k = length-take-le k names h in
+    rw l
+    (record {
+      only = λ i q. rw (getD-take k names i 0 q) (c .only i q);
+      every = λ x d. let e = c .every x d in (e .0, e .1, getD-take k names (e .0) 0 (e .1) ∙ e .2);
+      rising = λ i j p q. rw (getD-take k names i 0 (let z : i < k = omega arith in z), getD-take k names j 0 q) (c .rising i j p q);
+    })
+
+pub telling : (w : Workspace) (a : Code) (n : ℕ) (bytes names old new : List ℕ) (k : ℕ) (r : Carried) → CitesIn n bytes names k → length names ≡ 8192
+    → Says (meant a (take k names)) old new (r .length) → r .workspace ≡ w → Telling w a n bytes old new r
+telling w a n bytes names old new k r c l s q = record {
+  names = take k names;
+  none = λ e. ap (λ (j : ℕ). take j names) (c .none e);
+  some = λ e. taken-rising (firstLines n bytes) names k (omega (arith, c .few, l)) (c .some e);
+  says = s;
+  workspace = q;
+}
+
+-- ---- a call without a proof
+
+plain : (x : ℕ) (r : Reply) → answered x r [] ≡ plainly x r
+plain x (Node i) = refl
+plain x Held = refl
+plain x Gone = refl
+plain x (Refused k) = refl
+plain x (Clash n) = refl
+plain x (Cycle n) = refl
+
+pub replying : (o : Outcome) (x : ℕ) (a : Code) (bytes old new : List ℕ) (r : Carried) → Means (answered x (o .reply)) a → Telling (o .workspace) a 0 bytes old new r → Replying o x old new r
+replying o x a bytes old new r m t =
+    let e : meant a (t .names) ≡ plainly x (o .reply) = ap (meant a) (t .none refl) ∙ m .means [] ∙ plain x (o .reply) in
+    record { says = rw (← e) (t .says); workspace = t .workspace }
+
+module _ (w : Workspace) (c : book.Call) (x : ℕ) (o : Outcome) (old new : List ℕ) (r : Carried) (A : Answers w c o) (R : Replying o x old new r) (proof : List ℕ) where
+  pub called : Called w c x proof proof (plainly x (o .reply)) (r .workspace)
+  called = record { outcome = o; answers = A; said = refl; workspace = R .workspace; kept = refl }
+
+  pub carries : (i : ℕ) (t : Option Order) → (Called w c x proof proof (plainly x (o .reply)) (r .workspace) → Does w i t proof proof (plainly x (o .reply)) (r .workspace))
+      → Carries w i t proof proof old new r
+  carries i t k = record { answer = plainly x (o .reply); does = k called; says = R .says }
+
+-- the part of the children from place 0 on
+pub declares : (w : Workspace) (f k : ℕ) (cs : List ℕ) (o : Outcome) → Answers w (book.declare (functor f (take (k - 0) cs))) o → Answers w (book.declare (functor f (take k cs))) o
+declares w f k cs o h = let q : k - 0 ≡ k = omega arith in rw q at h
+
+-- ---- an offered equation
+
+module _ (w : Workspace) (e : Equation) (before after : List ℕ) where
+  lines-few : (r : Reply) → Written (offered (stateOf w) e) before after r → replyLines r ≤ 8192
+  lines-few (Node i) h = omega arith
+  lines-few Held h = omega arith
+  lines-few Gone h = omega arith
+  lines-few (Refused k) h = omega arith
+  lines-few (Clash n) h = h .few
+  lines-few (Cycle n) h = h .few
+
+  pub equate-lines : (o : Outcome) → Equates w e before after o → replyLines (o .reply) ≤ 8192
+  equate-lines o q = lines-few (o .reply) (q .written)
+
+  spoken : (a : Code) (old new : List ℕ) (v : Workspace) (r : Carried) (p : Reply) → Means (answered (e .name) p) a → (t : Telling v a (replyLines p) after old new r)
+      → Written (offered (stateOf w) e) before after p → Spoken (e .name) after p (meant a (t .names))
+  spoken a old new v r (Node i) m t h = m .means (t .names)
+  spoken a old new v r Held m t h = m .means (t .names)
+  spoken a old new v r Gone m t h = m .means (t .names)
+  spoken a old new v r (Refused k) m t h = m .means (t .names) ∙ ap (refused k) (t .none refl)
+  spoken a old new v r (Clash n) m t h = record { names = t .names; cited = t .some (h .some); answer = m .means (t .names) }
+  spoken a old new v r (Cycle n) m t h = record { names = t .names; cited = t .some (h .some); answer = m .means (t .names) }
+
+  pub carries-offer : (o : Outcome) (a : Code) (old new : List ℕ) (r : Carried) → Equates w e before after o → Means (answered (e .name) (o .reply)) a
+      → (n : ℕ) → n ≡ replyLines (o .reply) → Telling (o .workspace) a n after old new r → (t : Option Order) (i : ℕ)
+      → ((b : Answer) → Offered w e before after b (r .workspace) → Does w i t before after b (r .workspace)) → Carries w i t before after old new r
+  carries-offer o a old new r q m n k t s i f =
+      let u : Telling (o .workspace) a (replyLines (o .reply)) after old new r = rw k at t in
+      record {
+        answer = meant a (u .names);
+        does = f (meant a (u .names)) (record { outcome = o; equates = q; said = spoken a old new (o .workspace) r (o .reply) m u (q .written); workspace = u .workspace });
+        says = u .says;
+      }
+
+-- ---- a query
+
+module _ (w : Workspace) (ok : Valid w) (x y : ℕ) (before after : List ℕ) where
+  stands-few : (r : Comparison) → compare.Stands (stateOf w) x y before after r → comparisonLines r ≤ 8192
+  stands-few (stands.Same n) (compare.same p q) = q .few
+  stands-few (stands.Below n) (compare.below m p q) = q .few
+  stands-few (stands.Above n) (compare.above m k p q) = q .few
+  stands-few stands.Apart (compare.apart m k j q) = omega arith
+
+  replies-few : (o : Option ℕ) (r : Comparison) → compare.Replies o (stateOf w) x y before after r → comparisonLines r ≤ 8192
+  replies-few none r h = stands-few r h
+  replies-few (some k) r h = omega (arith, ap comparisonLines (h .0))
+
+  pub compare-lines : (o : Compared) → compare.Compares w x y before after o → comparisonLines (o .reply) ≤ 8192
+  compare-lines o q = replies-few (compare.refusalOf (stateOf w) x y (length before)) (o .reply) (q .replies ok)
+
+  module _ (a : Code) (old new : List ℕ) (v : Workspace) (c : Carried) where
+    stance-said : (p : Comparison) → Means (compared p) a → (t : Telling v a (comparisonLines p) after old new c) → compare.Stands (stateOf w) x y before after p → Stated after p (meant a (t .names))
+    stance-said (stands.Same n) m t (compare.same p q) = record { names = t .names; cited = t .some (q .some); answer = m .means (t .names) }
+    stance-said (stands.Below n) m t (compare.below l p q) = record { names = t .names; cited = t .some (q .some); answer = m .means (t .names) }
+    stance-said (stands.Above n) m t (compare.above l k p q) = record { names = t .names; cited = t .some (q .some); answer = m .means (t .names) }
+    stance-said stands.Apart m t (compare.apart l k j q) = m .means (t .names)
+
+    refused-said : (p : Comparison) (k : ℕ) → p ≡ stands.Refused k → Means (compared p) a → (t : Telling v a (comparisonLines p) after old new c) → Stated after p (meant a (t .names))
+    refused-said (stands.Same n) k e m t = absurd (let z : _≡_ {A = ℕ} 0 1 = cc in omega arith)
+    refused-said (stands.Below n) k e m t = absurd (let z : _≡_ {A = ℕ} 0 1 = cc in omega arith)
+    refused-said (stands.Above n) k e m t = absurd (let z : _≡_ {A = ℕ} 0 1 = cc in omega arith)
+    refused-said stands.Apart k e m t = absurd (let z : _≡_ {A = ℕ} 0 1 = cc in omega arith)
+    refused-said (stands.Refused j) k e m t = m .means (t .names) ∙ ap (refused j) (t .none refl)
+
+    stated : (o : Option ℕ) (p : Comparison) → Means (compared p) a → (t : Telling v a (comparisonLines p) after old new c) → compare.Replies o (stateOf w) x y before after p → Stated after p (meant a (t .names))
+    stated none p m t h = stance-said p m t h
+    stated (some k) p m t h = refused-said p k (h .0) m t
+
+  pub carries-query : (o : Compared) (a : Code) (old new : List ℕ) (r : Carried) → compare.Compares w x y before after o → Means (compared (o .reply)) a
+      → (n : ℕ) → n ≡ comparisonLines (o .reply) → Telling (o .workspace) a n after old new r → (i : ℕ) → Carries w i (some (order.query x y)) before after old new r
+  carries-query o a old new r q m n k t i =
+      let u : Telling (o .workspace) a (comparisonLines (o .reply)) after old new r = rw k at t in
+      record {
+        answer = meant a (u .names);
+        does = record { compared = o; compares = q; said = stated a old new (o .workspace) r (compare.refusalOf (stateOf w) x y (length before)) (o .reply) m u (q .replies ok); workspace = u .workspace };
+        says = u .says;
+      }

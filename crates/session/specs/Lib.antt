@@ -1,0 +1,4 @@
+-- Orders carried out.
+pub mod Carried
+pub mod Inner
+pub mod Book
