@@ -1,4 +1,4 @@
-// An order's bytes to a command, and the orders of an input.
+// An order's bytes to a command.
 ghost use mathlib.Core.Path.{_≡_};
 ghost use mathlib.Core.Bool.{true, cond};
 ghost use lib.Dec.{ltb};
@@ -7,7 +7,6 @@ ghost use lib.ListN.{length, drop};
 ghost use Rattle.orders.specs.Grammar.{isDigit};
 ghost use Rattle.orders.specs.Scan.{Scans, inWord, IsNumber, KeepsOne, Collects};
 ghost use Rattle.orders.specs.Parse.{Parses, ByLetter};
-ghost use Rattle.orders.specs.Input.{EndsAt};
 
 // A number, and the place after its last digit; or that no number stands there.
 pub enum Scanned {
@@ -251,19 +250,4 @@ pub fn parse(line: &[u8]) -> Parsed
         return by_letter(x, ns);
     }
     plain(Command::Unreadable)
-}
-
-// Where the order that begins at `at` ends: at the next line break, or where the input ends.
-pub fn line_end(input: &[u8], at: usize) -> usize
-    requires { ⌜ at ≤ length (now input) ⌝ }
-    ensures { λ r. ⌜ EndsAt (now (input .entry)) at r ⌝ }
-{
-    let mut i = at;
-    while i < input.len() {
-        if input[i] == 10 {
-            return i;
-        }
-        i += 1;
-    }
-    i
 }

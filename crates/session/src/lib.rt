@@ -7,6 +7,7 @@ ghost use lib.ListN.{length, take, drop};
 ghost use Rattle.unifier.specs.Views.{Valid};
 ghost use Rattle.orders.specs.Grammar.{orderOf};
 ghost use Rattle.orders.specs.Grammar as order;
+ghost use Rattle.orders.specs.Input.{EndsAt};
 ghost use Rattle.answers.specs.Puts.{meant, Small};
 ghost use Rattle.session.specs.Carried.{Carries, Steps};
 ghost use Rattle.session.specs.Book.{Replayed};
@@ -229,6 +230,21 @@ pub struct Stepped {
     pub next: usize,
 }
 
+// Where the order that begins at `at` ends: at the next line break, or where the input ends.
+fn line_end(input: &[u8], at: usize) -> usize
+    requires { ⌜ at ≤ length (now input) ⌝ }
+    ensures { λ r. ⌜ EndsAt (now (input .entry)) at r ⌝ }
+{
+    let mut i = at;
+    while i < input.len() {
+        if input[i] == 10 {
+            return i;
+        }
+        i += 1;
+    }
+    i
+}
+
 // The order at `at`.
 pub fn step<'a>(
     w: Workspace,
@@ -242,7 +258,7 @@ pub fn step<'a>(
     requires { ⌜ Valid w × (at < length (now input)) × (i < 100000) × (length (now proof) ≡ 65536) × (length (now names) ≡ 8192) × (49184 ≤ length (now out)) ⌝ }
     ensures { λ r. ⌜ Steps w (now (input .entry)) at i (now (proof .entry)) (now (proof .exit)) (now (out .entry)) (now (out .exit)) r ⌝ }
 {
-    let e = orders::line_end(input, at);
+    let e = line_end(input, at);
     let carried = carry(w, &input[at..e], i, proof, names, out);
     Stepped {
         carried: carried,

@@ -1,11 +1,11 @@
--- `orders::line_end` meets its contract. Assumes nothing.
+-- `session::line_end` meets its contract. Assumes nothing.
 use Prim.Native.Nat.{_-_}
 use lib.ListN.{length}
 use Rattle.orders.proofs.InputLaws.{Seeking, seeking-none, seeking-break, seeking-more, seeking-all}
 use native.Mathlib.Omega.{arith}
 use borrow.Author.Needs.{needs}
-use Rattle.orders.proofs.line_end.Statement.{statement}
-use Rattle.orders.proofs.line_end.Tie as tie
+use Rattle.session.proofs.line_end.Statement.{statement}
+use Rattle.session.proofs.line_end.Tie as tie
 
 abbrev Inv-loop : tie.InvT-loop
 Inv-loop input at i₀ i = Seeking input at i
