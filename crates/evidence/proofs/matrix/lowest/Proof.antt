@@ -1,0 +1,45 @@
+use borrow.Author.Needs.{needs}
+use Prim.Native.Nat.{_-_}
+use Rattle.evidence.proofs.matrix.lowest.Statement.{statement}
+use Rattle.evidence.proofs.matrix.lowest.Tie as tie
+
+abbrev Inv-loop : tie.InvT-loop
+Inv-loop desk u n v₀ v = Unit
+
+abbrev μ-loop : tie.MeasureT-loop
+μ-loop desk u n v₀ v = n - v
+
+loop-holds : tie.Need-loop-holds Inv-loop μ-loop
+loop-holds c = search needs
+
+same-requires : tie.Need-same-requires Inv-loop μ-loop
+same-requires c κs = search needs
+
+returns : tie.Need-returns Inv-loop μ-loop
+returns c = search needs
+
+add-v : tie.Need-add-v Inv-loop μ-loop
+add-v c = search needs
+
+loop-less : tie.Need-loop-less Inv-loop μ-loop
+loop-less c = search needs
+
+loop-again : tie.Need-loop-again Inv-loop μ-loop
+loop-again c = search needs
+
+returns-2 : tie.Need-returns-2 Inv-loop μ-loop
+returns-2 c = search needs
+
+pub lowest-spec : {M : Type 1} → statement M
+lowest-spec =
+    tie.close
+    (tie.spec
+    Inv-loop
+    μ-loop
+    loop-holds
+    same-requires
+    returns
+    add-v
+    loop-less
+    loop-again
+    returns-2)
