@@ -6,7 +6,7 @@
 -- Assumes nothing: these are definitions.
 use mathlib.Core.Path.{_≡_}
 use mathlib.Core.List.{List, _++_}
-use Prim.Native.Nat.{ℕ, _+_, _≤_, _<_}
+use Prim.Native.Nat.{ℕ, _+_, _<_}
 use lib.ListN.{length, take, drop}
 use Rattle.answers.specs.Text.{Answer, node, held, gone, same, below, above, apart, refused, unreadable, textOf, decimal}
 use Rattle.answers.specs.declared.Answer.{Answer as Spoken}

@@ -5,12 +5,11 @@ use mathlib.Core.List.{List, [], _∷_}
 use Prim.Native.Nat.{ℕ, suc, _+_, _-_, _≤_, _<_}
 use native.Mathlib.Numerals.{add-one}
 use native.Mathlib.Omega.{arith}
-use lib.ListN.{length, getD, take, drop, drop-of-length-le, length-drop}
+use lib.ListN.{length, getD, take, drop, drop-of-length-le}
 use lib.Seq.{drop-drop}
 use lib.Dec.{eqb}
 use borrow.Author.Tests.{eq-eqb, ne-eqb}
 use Rattle.orders.specs.Grammar.{split, dropLast, ordersIn}
-use Rattle.orders.specs.Scan.{firstTo}
 use Rattle.orders.specs.Input.{firstLine, EndsAt}
 use Rattle.orders.proofs.ScanLaws.{drop-here, afterPart, split-part}
 

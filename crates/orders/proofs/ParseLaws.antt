@@ -3,14 +3,14 @@ use mathlib.Core.Path.{_≡_, refl, sym, ap, ap₂, _∙_}
 use mathlib.Core.Bool.{Bool, true, false, cond}
 use mathlib.Core.List.{List, [], _∷_}
 use mathlib.Core.Option.{Option, none, some}
-use Prim.Native.Nat.{ℕ, zero, suc, _+_, _-_, _≤_, _<_}
+use Prim.Native.Nat.{ℕ, _-_, _≤_, _<_}
 use native.Mathlib.Omega.{arith}
 use lib.ListN.{length, getD, take, drop}
 use lib.Dec.{eqb, ltb}
-use borrow.Author.Tests.{ne-eqb, eqb-true, lt-ltb, le-ltb}
-use Rattle.orders.specs.Grammar.{Order, variable, functor, equate, withdraw, query, onFirst, split, try, numberOf, numbersOf, asFunctor, asEquate, asWithdraw, asQuery, byLetter, wordsAs, orderOf}
+use borrow.Author.Tests.{ne-eqb, eqb-true, lt-ltb}
+use Rattle.orders.specs.Grammar.{Order, onFirst, split, try, numberOf, numbersOf, byLetter, wordsAs, orderOf}
 use Rattle.orders.specs.Scan.{firstWord, Collected, CollectedOr, Collects}
-use Rattle.orders.specs.Parse.{firstFive, Children, Gives, Parses, ByLetter}
+use Rattle.orders.specs.Parse.{firstFive, Gives, Parses, ByLetter}
 use Rattle.orders.specs.declared.Numbers.{Numbers}
 use Rattle.orders.specs.declared.Parsed.{Parsed}
 use Rattle.orders.specs.declared.Command.the-variants as command

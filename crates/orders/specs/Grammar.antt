@@ -5,11 +5,11 @@
 --   orderOf    a line's bytes as an order; none where it can't be read (refusal 16)
 --   ordersIn   the lines of an input: only byte 10 breaks a line, and a final line break may be missing
 -- Assumes nothing: these are definitions.
-use mathlib.Core.Bool.{Bool, true, false, not, _&&_, _||_, cond}
-use mathlib.Core.List.{List, [], _∷_, _++_}
+use mathlib.Core.Bool.{Bool, _&&_, cond}
+use mathlib.Core.List.{List, [], _∷_}
 use mathlib.Core.Option.{Option, none, some}
 use Prim.Native.Nat.{ℕ, _+_, _-_, _*_}
-use lib.Dec.{eqb, ltb, leb}
+use lib.Dec.{eqb, leb}
 
 pub data Order : Type 0 where
   variable : Order

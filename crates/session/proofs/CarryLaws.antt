@@ -1,19 +1,18 @@
 -- One order carried out, from what its parts promise. Assumes nothing.
-use mathlib.Core.Path.{_≡_, refl, sym, ap, ap₂, _∙_, subst}
-use mathlib.Core.List.{List, [], _∷_}
+use mathlib.Core.Path.{_≡_, refl, ap, _∙_, subst}
+use mathlib.Core.List.{List, []}
 use mathlib.Core.Option.{Option, none, some}
-use Prim.Native.Nat.{ℕ, zero, suc, _+_, _-_, _*_, _≤_, _<_}
+use Prim.Native.Nat.{ℕ, _-_, _*_, _≤_, _<_}
 use mathlib.Core.Bool.{Bool, true, false}
 use lib.Dec.{ltb}
 use borrow.Author.Tests.{ltb-true, ltb-false}
 use native.Mathlib.Omega.{arith}
-use lib.ListN.{length, getD, take, drop, List·getD-eq-default}
+use lib.ListN.{length, getD, take, List·getD-eq-default}
 use lib.Seq.{length-take-le, getD-take}
-use Rattle.graph.specs.State.{Equation, equationOf, offered, functor}
+use Rattle.graph.specs.State.{Equation, offered, functor}
 use Rattle.graph.specs.Lines.{Line}
 use Rattle.graph.specs.Book as book
 use Rattle.lines.specs.Codec.{linesOf, firstLines}
-use Rattle.lines.specs.Proof.{ProofIn}
 use Rattle.lines.proofs.Decoding.{part-lines}
 use Rattle.cited.specs.Cited.{CitedRising}
 use Rattle.unifier.specs.Views.{Valid, stateOf}
@@ -29,11 +28,10 @@ use Rattle.unifier.specs.declared.Comparison.{Comparison}
 use Rattle.unifier.specs.declared.Comparison.the-variants as stands
 use Rattle.orders.specs.Grammar.{Order}
 use Rattle.orders.specs.Grammar as order
-use Rattle.answers.specs.Text.{Answer, refused, same, below, above}
+use Rattle.answers.specs.Text.{Answer, refused}
 use Rattle.answers.specs.Puts.{meant, Says}
 use Rattle.answers.specs.declared.Answer.{Answer as Code}
-use Rattle.answers.specs.declared.Answer.the-variants as code
-use Rattle.session.specs.Carried.{plainly, Citing, Spoken, Stated, Called, Offered, Asked, Does, Carries}
+use Rattle.session.specs.Carried.{plainly, Spoken, Stated, Called, Offered, Does, Carries}
 use Rattle.session.specs.Inner.{replyLines, comparisonLines, answered, compared, Means, CitesIn, Telling, Replying}
 use Rattle.session.specs.declared.Carried.{Carried}
 

@@ -1,13 +1,13 @@
 -- What is printed of a number is a number of the grammar, so without leading zeros, and the same number. Assumes nothing.
-use mathlib.Core.Path.{_≡_, refl, sym, ap, ap₂, _∙_}
+use mathlib.Core.Path.{_≡_, refl, sym, ap, _∙_}
 use mathlib.Core.Bool.{Bool, true, false, _&&_, cond}
 use mathlib.Core.List.{List, [], _∷_, _++_}
 use mathlib.Core.Option.{Option, none, some}
 use Prim.Native.Nat.{ℕ, zero, suc, _+_, _-_, _*_, _/_, _%_, _≤_, _<_}
 use native.Mathlib.Nat.{div-lt-iff-lt-mul, div-add-mod', mod-lt}
 use native.Mathlib.Omega.{arith}
-use lib.Dec.{ltb, leb, eqb}
-use borrow.Author.Tests.{lt-ltb, le-ltb, le-leb, ne-eqb, ltb-true, ltb-false}
+use lib.Dec.{ltb, leb}
+use borrow.Author.Tests.{le-leb, ne-eqb, ltb-true, ltb-false}
 use Rattle.orders.specs.Grammar.{isDigit, digitsFrom, numberOf, try}
 use Rattle.answers.specs.Text.{decimalBy, decimal}
 use Rattle.answers.proofs.DigitLaws.{limit}

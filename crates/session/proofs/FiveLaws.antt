@@ -2,17 +2,16 @@
 use mathlib.Core.Path.{_≡_, refl, sym, ap, _∙_, subst}
 use mathlib.Core.Bool.{Bool, true, false, cond}
 use mathlib.Core.List.{List}
-use mathlib.Core.Option.{Option, none, some}
-use Prim.Native.Nat.{ℕ, _≤_, _<_}
+use mathlib.Core.Option.{Option, some}
+use Prim.Native.Nat.{ℕ, _<_}
 use native.Mathlib.Omega.{arith}
-use lib.ListN.{length, take}
+use lib.ListN.{length}
 use lib.Seq.{length-take-le, take-all}
 use lib.Dec.{ltb, leb}
 use borrow.Author.Tests.{lt-ltb, ltb-true, ltb-false, ne-eqb}
 use Rattle.graph.specs.State.{State, functor}
 use Rattle.graph.specs.Book as book
-use Rattle.unifier.specs.Views.{Valid, stateOf, packed}
-use Rattle.unifier.specs.Replies.{said}
+use Rattle.unifier.specs.Views.{stateOf, packed}
 use Rattle.unifier.specs.Answers.{Answers, Follows}
 use Rattle.unifier.specs.declared.Workspace.{Workspace}
 use Rattle.unifier.specs.declared.Outcome.{Outcome}

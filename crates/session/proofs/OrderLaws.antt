@@ -5,7 +5,6 @@ use mathlib.Core.Option.{Option, none, some}
 use Prim.Native.Nat.{ℕ, _≤_}
 use native.Mathlib.Omega.{arith}
 use lib.ListN.{length, take, length-take}
-use lib.Seq.{length-take-le}
 use Rattle.graph.specs.State.{functor}
 use Rattle.graph.specs.Book as book
 use Rattle.unifier.specs.Answers.{Answers}
@@ -16,7 +15,7 @@ use Rattle.orders.specs.Parse.{firstFive, Children, Gives}
 use Rattle.orders.specs.declared.Parsed.{Parsed}
 use Rattle.orders.specs.declared.Command.{Command}
 use Rattle.orders.specs.declared.Command.the-variants as command
-use Rattle.session.specs.Carried.{plainly, Called, Does, Carries}
+use Rattle.session.specs.Carried.{Carries}
 use Rattle.session.specs.Inner.{Declares}
 use Rattle.session.specs.declared.Carried.{Carried}
 use Rattle.session.proofs.CarryLaws.{carries}

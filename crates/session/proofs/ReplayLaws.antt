@@ -1,12 +1,10 @@
 -- An input's orders carried out one after the other. Assumes nothing.
 use mathlib.Core.Path.{_≡_, refl, sym, ap, _∙_, subst}
-use mathlib.Core.Bool.{true, false, cond}
+use mathlib.Core.Bool.{cond}
 use mathlib.Core.List.{List, [], _∷_, _++_, append-assoc, append-nil}
-use mathlib.Core.Option.{Option, none, some}
 use Prim.Native.Nat.{ℕ, _+_, _-_, _≤_, _<_}
 use native.Mathlib.Omega.{arith}
 use lib.ListN.{length, take, drop, length-append, length-drop}
-use lib.Dec.{ltb}
 use borrow.Author.Tests.{lt-ltb, le-ltb}
 use Rattle.graph.specs.State.{State, emptyState}
 use Rattle.unifier.specs.Views.{Valid, stateOf, packed, freshWorkspace}
@@ -14,10 +12,9 @@ use Rattle.unifier.specs.declared.Workspace.{Workspace}
 use Rattle.unifier.proofs.PackedLaws.{fresh-valid, fresh-packed}
 use Rattle.orders.specs.Grammar.{orderOf, ordersIn}
 use Rattle.answers.specs.Text.{Answer}
-use Rattle.orders.specs.Input.{EndsAt}
 use Rattle.answers.specs.Puts.{Puts}
 use Rattle.orders.proofs.InputLaws.{orders-at, orders-end}
-use Rattle.session.specs.Carried.{Carries, Steps}
+use Rattle.session.specs.Carried.{Steps}
 use Rattle.session.specs.Book.{forget, Tells, TellsAll, Replayed, ordersOf}
 use Rattle.session.specs.Book as told
 use Rattle.session.specs.declared.Stepped.{Stepped}

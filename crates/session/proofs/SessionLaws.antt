@@ -1,16 +1,15 @@
 -- A list of orders is answered as the book answers it. Assumes nothing.
-use mathlib.Core.Path.{_≡_, refl, sym, ap, ap₂, _∙_, subst}
+use mathlib.Core.Path.{_≡_, refl, sym, ap, _∙_, subst}
 use mathlib.Core.List.{List, [], _∷_, _++_, map}
 use mathlib.Core.Option.{Option, none, some}
 use Prim.Native.Nat.{ℕ, _+_}
 use native.Mathlib.Omega.{arith}
 use lib.ListN.{length}
-use Rattle.graph.specs.State.{State, emptyState, Equation, equationOf, variable, functor}
+use Rattle.graph.specs.State.{State, emptyState, equationOf, variable, functor}
 use Rattle.graph.specs.Book as book
-use Rattle.unifier.specs.Views.{Valid, stateOf, packed, freshWorkspace}
+use Rattle.unifier.specs.Views.{Valid, stateOf, packed}
 use Rattle.unifier.specs.Replies.{said}
-use Rattle.unifier.specs.Answers.{Answers, Follows}
-use Rattle.unifier.specs.Equate.{Equates}
+use Rattle.unifier.specs.Answers.{Answers}
 use Rattle.unifier.specs.Compare as compare
 use Rattle.unifier.specs.declared.Workspace.{Workspace}
 use Rattle.unifier.specs.declared.Outcome.{Outcome}
@@ -18,12 +17,12 @@ use Rattle.unifier.specs.declared.Reply.{Reply}
 use Rattle.unifier.specs.declared.Reply.the-variants.{Node, Held, Gone, Refused, Clash, Cycle}
 use Rattle.unifier.specs.declared.Comparison.{Comparison}
 use Rattle.unifier.specs.declared.Comparison.the-variants as stands
-use Rattle.unifier.proofs.PackedLaws.{repacked, unpacked, fresh-valid, fresh-state, fresh-packed}
+use Rattle.unifier.proofs.PackedLaws.{repacked, unpacked, fresh-valid, fresh-state}
 use Rattle.orders.specs.Grammar.{Order, orderOf}
 use Rattle.orders.specs.Grammar as order
 use Rattle.answers.specs.Text.{Answer}
-use Rattle.session.specs.Carried.{plainly, Citing, Spoken, Stated, Called, Offered, Asked, Passed, Does}
-use Rattle.session.specs.Book.{forget, spoken, Calls, Stance, Compares, Tells, TellsAll, Session, Faithful, Orders}
+use Rattle.session.specs.Carried.{plainly, Spoken, Stated, Does}
+use Rattle.session.specs.Book.{forget, spoken, Calls, Stance, Compares, Tells, TellsAll, Session, Orders}
 use Rattle.session.specs.Book as told
 
 -- ---- one order

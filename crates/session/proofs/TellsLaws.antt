@@ -1,6 +1,6 @@
 -- The book's answers to a list of orders are unique, and so are its two lists after them. Assumes nothing.
 use mathlib.Core.Path.{_≡_, refl, sym, ap, ap₂, _∙_, subst}
-use mathlib.Core.List.{List, [], _∷_}
+use mathlib.Core.List.{List, _∷_}
 use mathlib.Core.Option.{Option, none, some}
 use Prim.Native.Nat.{ℕ, _+_}
 use Rattle.graph.specs.State.{State, variable, functor, equationOf}

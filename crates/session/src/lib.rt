@@ -1,14 +1,16 @@
-// Orders carried out on a workspace, one after the other.
+// Orders carried out on a workspace, one after the other. The caller lends a proof buffer of 65,536 bytes, room for 8,192 names, as many
+// as a proof has lines, and 49,184 bytes for an answer: a word of at most 7 letters, two numbers or one and the names, each of at most 6 bytes
+// with its space, and the line break.
 ghost use mathlib.Core.Path.{_≡_};
-ghost use mathlib.Core.List.{List, []};
+ghost use mathlib.Core.List.{List};
 ghost use mathlib.Core.Option.{none, some};
 ghost use Prim.Native.Nat.{ℕ, _+_, _-_, _*_, _≤_, _<_};
-ghost use lib.ListN.{length, take, drop};
+ghost use lib.ListN.{length, take};
 ghost use Rattle.unifier.specs.Views.{Valid};
 ghost use Rattle.orders.specs.Grammar.{orderOf};
 ghost use Rattle.orders.specs.Grammar as order;
 ghost use Rattle.orders.specs.Input.{EndsAt};
-ghost use Rattle.answers.specs.Puts.{meant, Small};
+ghost use Rattle.answers.specs.Puts.{Small};
 ghost use Rattle.session.specs.Carried.{Carries, Steps};
 ghost use Rattle.session.specs.Book.{Replayed};
 ghost use Rattle.session.specs.Inner.{replyLines, comparisonLines, answered, compared, Means, CitesIn, Telling, Replying, Declares};

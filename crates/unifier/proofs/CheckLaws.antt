@@ -1,23 +1,22 @@
 -- The lines that a call left, handed to check: it passes them. Assumes nothing.
-use mathlib.Core.Path.{_≡_, refl, sym, ap, _∙_, subst}
+use mathlib.Core.Path.{_≡_, refl, sym, _∙_, subst}
 use mathlib.Core.Bool.{Bool, true, false, not, _||_, cond}
 use mathlib.Core.List.{List, [], _∷_, _++_}
 use mathlib.Core.Option.{Option, none, some}
 use Prim.Native.Nat.{ℕ, _+_, _*_, _/_, _%_, _≤_, _<_}
 use native.Mathlib.Omega.{arith}
-use native.Mathlib.Nat.{mul-div-right}
 use lib.ListN.{length, take, length-append}
-use lib.Seq.{getD-take, length-take-le}
 use lib.Dec.{eqb, ltb, leb}
-use borrow.Author.Tests.{eq-eqb, ne-eqb, lt-ltb, le-ltb, lt-leb, le-leb, ltb-true, ltb-false}
+use borrow.Author.Tests.{lt-ltb, lt-leb, le-leb, ltb-true, ltb-false}
 use Rattle.graph.specs.State.{State, Equation, nameHeld, offered}
 use Rattle.graph.specs.Goals.{Goal, clash-goal, cycle-goal, same-goal, below-goal, Judgement, passed, refused, shows, Ended, ends, breaks, empty, lastOf, ended, judgeEnd, judge}
 use Rattle.graph.specs.Lines.{Line, Claim, Checked, all, broken, onAll, more, claimOf, checked}
 use Rattle.graph.proofs.BoolLaws.{and-left, and-right}
-use Rattle.graph.proofs.TabLaws.{tab-length, tab-same}
-use Rattle.lines.specs.Codec.{lineFrom, lineAt, firstLines, linesOf}
+use Rattle.graph.proofs.TabLaws.{tab-length}
+use Rattle.lines.specs.Codec.{lineAt, firstLines, linesOf}
 use Rattle.lines.specs.Proof.{ProofIn}
 use Rattle.checker.specs.Answers.{badLength, judgedAs, answerTo}
+use Rattle.checker.proofs.AnswerLaws.{proof-passes}
 use Rattle.checker.specs.declared.Judged.{Judged}
 use Rattle.checker.specs.declared.Judged.the-variants.{Refused}
 use Rattle.store.specs.Operations.{First}
@@ -33,33 +32,6 @@ use Rattle.unifier.specs.declared.Goal.the-variants as goal
 use Rattle.unifier.specs.declared.Offer.{Offer}
 use Rattle.unifier.specs.declared.Offer.the-variants as offer
 
-line-take : (bs : List ℕ) (m o : ℕ) → o + 8 ≤ m → lineFrom (take m bs) o ≡ lineFrom bs o
-line-take bs m o h =
-    rw (
-      getD-take m bs o 0 (omega arith),
-      getD-take m bs (o + 1) 0 (omega arith),
-      getD-take m bs (o + 2) 0 (omega arith),
-      getD-take m bs (o + 2 + 1) 0 (omega arith),
-      getD-take m bs (o + 4) 0 (omega arith),
-      getD-take m bs (o + 4 + 1) 0 (omega arith),
-      getD-take m bs (o + 6) 0 (omega arith),
-      getD-take m bs (o + 6 + 1) 0 (omega arith),
-    )
-
-lines-take : (n : ℕ) (bs : List ℕ) → firstLines n (take (8 * n) bs) ≡ firstLines n bs
-unfolding firstLines
-lines-take n bs = tab-same n (lineAt (take (8 * n) bs)) (lineAt bs) (λ i h. line-take bs (8 * n) (8 * i) (omega arith))
-
-whole-lines : (n : ℕ) → 1 ≤ n → n ≤ 8192 → badLength (8 * n) ≡ false
-whole-lines n a b =
-    let z : (8 * n) % 8 ≡ 0 = omega arith in
-    rw (ne-eqb (8 * n) 0 (λ e. omega arith), le-ltb 65536 (8 * n) (omega arith), eq-eqb ((8 * n) % 8) 0 z)
-
--- the checker's word on bytes of a right length is its word on their lines
-whole-judged : (s : State) (g : Goal) (bytes : List ℕ) → badLength (length bytes) ≡ false → answerTo s g bytes ≡ judge s g (linesOf bytes)
-unfolding answerTo
-whole-judged s g bytes h = rw h
-
 offer-judged : (s : State) (e : Equation) (g : Goal) (bytes : List ℕ) → bothBelow (length (s .nodes)) (e .left) (e .right) ≡ true
     → nameHeld (e .name) (s .equations) ≡ false → goalBelow (length (s .nodes)) g ≡ true → checkReply s (some e) g bytes ≡ answerTo (offered s e) g bytes
 unfolding checkReply
@@ -70,16 +42,7 @@ module _ (s : State) (e : Equation) (g : Goal) (n : ℕ) (before after : List �
   pub proof-checks : ProofIn (offered s e) g n before after → 8 * n ≤ length before → bothBelow (length (s .nodes)) (e .left) (e .right) ≡ true
       → nameHeld (e .name) (s .equations) ≡ false → goalBelow (length (s .nodes)) g ≡ true → checkReply s (some e) g (take (8 * n) after) ≡ passed
   proof-checks p r k w q =
-      let l : length (take (8 * n) after) ≡ 8 * n = length-take-le (8 * n) after (omega (arith, p .kept .size)) in
-      let c : linesOf (take (8 * n) after) ≡ firstLines n after =
-      ap (λ (m : ℕ). firstLines (m / 8) (take (8 * n) after)) l
-      ∙ ap (λ (m : ℕ). firstLines m (take (8 * n) after)) (mul-div-right n (omega arith))
-      ∙ lines-take n after in
-      let b : badLength (length (take (8 * n) after)) ≡ false = ap badLength l ∙ whole-lines n (p .some) (p .few) in
-      offer-judged s e g (take (8 * n) after) k w q
-      ∙ whole-judged (offered s e) g (take (8 * n) after) b
-      ∙ ap (judge (offered s e) g) c
-      ∙ p .passes
+      offer-judged s e g (take (8 * n) after) k w q ∙ proof-passes (offered s e) g n before after p (omega (arith, p .kept .size))
 
 -- ---- the calls' own tests, and the answer as a reply
 

@@ -1,7 +1,6 @@
 -- `answers::put` meets its contract. Assumes nothing.
 use mathlib.Core.Path.{refl}
 use Rattle.answers.proofs.PutLaws.{pasted-one}
-use native.Mathlib.Omega.{arith}
 use borrow.Author.Needs.{needs}
 use Rattle.answers.proofs.put.Statement.{statement}
 use Rattle.answers.proofs.put.Tie as tie

@@ -1,6 +1,5 @@
 -- `answers::put_decimal` meets its contract. Assumes nothing.
 use Rattle.answers.proofs.PutLaws.{puts-bytes}
-use native.Mathlib.Omega.{arith}
 use borrow.Author.Needs.{needs}
 use Rattle.answers.proofs.put_decimal.Statement.{statement}
 use Rattle.answers.proofs.put_decimal.Tie as tie

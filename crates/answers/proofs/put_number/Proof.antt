@@ -1,6 +1,5 @@
 -- `answers::put_number` meets its contract. Assumes nothing.
 use Rattle.answers.proofs.PutLaws.{puts-spaced}
-use native.Mathlib.Omega.{arith}
 use borrow.Author.Needs.{needs}
 use Rattle.answers.proofs.put_number.Statement.{statement}
 use Rattle.answers.proofs.put_number.Tie as tie

@@ -1,6 +1,5 @@
 -- `answers::say` meets its contract. Assumes nothing.
 use Rattle.answers.proofs.PutLaws.{says-as, small-number}
-use native.Mathlib.Omega.{arith}
 use borrow.Author.Needs.{needs}
 use Rattle.answers.proofs.say.Statement.{statement}
 use Rattle.answers.proofs.say.Tie as tie

@@ -1,7 +1,5 @@
 -- `orders::at_most_five` meets its contract. Assumes nothing.
 use borrow.Author.Tests.{lt-ltb, le-ltb}
-use native.Mathlib.Omega.{arith}
-use borrow.Author.Needs.{needs}
 use Rattle.orders.proofs.at_most_five.Statement.{statement}
 use Rattle.orders.proofs.at_most_five.Tie as tie
 

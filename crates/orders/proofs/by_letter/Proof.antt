@@ -1,6 +1,5 @@
 -- `orders::by_letter` meets its contract. Assumes nothing.
 use Rattle.orders.proofs.ParseLaws.{letter-at, letter-else}
-use native.Mathlib.Omega.{arith}
 use borrow.Author.Needs.{needs}
 use Rattle.orders.proofs.by_letter.Statement.{statement}
 use Rattle.orders.proofs.by_letter.Tie as tie

@@ -1,3 +1,4 @@
+-- `orders::collect` meets its contract. Assumes nothing.
 use mathlib.Core.Path.{refl}
 use Prim.Native.Nat.{_-_, _+_}
 use lib.ListN.{length}
@@ -6,10 +7,6 @@ use native.Mathlib.Omega.{arith}
 use borrow.Author.Needs.{needs}
 use Rattle.orders.proofs.collect.Statement.{statement}
 use Rattle.orders.proofs.collect.Tie as tie
-use Rattle.orders.proofs.collect.Reads as reads
-use Rattle.orders.proofs.collect.Lts as lts
-use Rattle.orders.proofs.kept.Reads as kept-reads
-use Rattle.orders.proofs.number.Reads as number-reads
 
 abbrev Inv-loop : tie.InvT-loop
 Inv-loop line from values₀ count₀ at₀ values count at = Sofar line from values count at
@@ -17,47 +14,36 @@ Inv-loop line from values₀ count₀ at₀ values count at = Sofar line from va
 abbrev μ-loop : tie.MeasureT-loop
 μ-loop line from values₀ count₀ at₀ values count at = length line + 1 - at
 
--- src/lib.rt:106:5
 loop-holds : tie.Need-loop-holds Inv-loop μ-loop
 loop-holds c = sofar-none _ _ _ (c .before .pre) (search needs)
 
--- src/lib.rt:107:40
 number-requires : tie.Need-number-requires Inv-loop μ-loop
 number-requires c κs = search needs
 
--- src/lib.rt:107:29
 enum-known-v : tie.Need-enum-known-v Inv-loop μ-loop
 enum-known-v c = search needs
 
--- src/lib.rt:111:25
 enum-told : tie.Need-enum-told Inv-loop μ-loop
 enum-told c = search needs
 
--- src/lib.rt:108:13
 returns : tie.Need-returns Inv-loop μ-loop
 returns c = sofar-bad _ _ _ _ _ (c .before .before .before .loop .inv) (c .before .before .number .result) (c .before .before .number .ensures) (c .enum-told .given .1) _ refl
 
--- src/lib.rt:114:13
 kept-requires : tie.Need-kept-requires Inv-loop μ-loop
 kept-requires c κs = search needs
 
--- src/lib.rt:116:9
 add-count : tie.Need-add-count Inv-loop μ-loop
 add-count c = search needs
 
--- src/lib.rt:118:13
 returns-2 : tie.Need-returns-2 Inv-loop μ-loop
 returns-2 c = sofar-last _ _ _ _ _ (c .before .before .before .before .before .before .loop .inv) _ _ _ (c .before .before .before .before .before .number .result) (c .before .before .before .before .before .number .ensures) (c .before .before .before .v .given .1) (c .before .kept .ensures) (c .if1 .taken) _ refl refl refl
 
--- src/lib.rt:124:14
 add-at : tie.Need-add-at Inv-loop μ-loop
 add-at c = search needs
 
--- src/lib.rt:106:5
 loop-less : tie.Need-loop-less Inv-loop μ-loop
 loop-less c = omega (arith, next-after _ _ _ _ _ (c .before .before .before .before .before .before .loop .inv) _ _ _ (c .before .before .before .before .before .number .result) (c .before .before .before .before .before .number .ensures) (c .before .before .before .v .given .1) (c .before .kept .ensures))
 
--- src/lib.rt:106:5
 loop-again : tie.Need-loop-again Inv-loop μ-loop
 loop-again c = sofar-more _ _ _ _ _ (c .before .before .before .before .before .before .loop .inv) _ _ _ (c .before .before .before .before .before .number .result) (c .before .before .before .before .before .number .ensures) (c .before .before .before .v .given .1) (c .before .kept .ensures) (search needs)
 

@@ -1,10 +1,9 @@
 -- `orders::digits` meets its contract: the word is read byte by byte. Assumes nothing.
-use mathlib.Core.Path.{_≡_, sym, _∙_}
+use mathlib.Core.Path.{sym, _∙_}
 use Prim.Native.Nat.{_-_}
 use lib.ListN.{length}
 use borrow.Author.Tests.{not-true, not-false}
 use Rattle.orders.proofs.ScanLaws.{Left, word-lt, left-none, left-all, left-bad, left-high, left-more}
-use Rattle.orders.specs.Scan.{numberAt}
 use native.Mathlib.Omega.{arith}
 use borrow.Author.Needs.{needs}
 use Rattle.orders.proofs.digits.Statement.{statement}

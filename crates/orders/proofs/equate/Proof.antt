@@ -1,6 +1,5 @@
 -- `orders::equate` meets its contract. Assumes nothing.
 use Rattle.orders.proofs.ParseLaws.{equate-three, equate-else}
-use native.Mathlib.Omega.{arith}
 use borrow.Author.Needs.{needs}
 use Rattle.orders.proofs.equate.Statement.{statement}
 use Rattle.orders.proofs.equate.Tie as tie

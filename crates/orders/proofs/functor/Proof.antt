@@ -1,7 +1,6 @@
 -- `orders::functor` meets its contract. Assumes nothing.
 use mathlib.Core.Path.{refl}
 use Rattle.orders.proofs.ParseLaws.{functor-none, functor-some}
-use native.Mathlib.Omega.{arith}
 use borrow.Author.Needs.{needs}
 use Rattle.orders.proofs.functor.Statement.{statement}
 use Rattle.orders.proofs.functor.Tie as tie

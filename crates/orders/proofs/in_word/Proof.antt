@@ -1,7 +1,6 @@
 -- `orders::in_word` meets its contract. Assumes nothing.
 use mathlib.Core.Path.{sym}
 use Rattle.orders.proofs.ScanLaws.{word-past, word-here}
-use native.Mathlib.Omega.{arith}
 use borrow.Author.Needs.{needs}
 use Rattle.orders.proofs.in_word.Statement.{statement}
 use Rattle.orders.proofs.in_word.Tie as tie

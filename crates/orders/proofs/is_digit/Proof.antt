@@ -1,7 +1,5 @@
 -- `orders::is_digit` meets its contract. Assumes nothing.
 use borrow.Author.Tests.{le-leb, lt-leb}
-use native.Mathlib.Omega.{arith}
-use borrow.Author.Needs.{needs}
 use Rattle.orders.proofs.is_digit.Statement.{statement}
 use Rattle.orders.proofs.is_digit.Tie as tie
 

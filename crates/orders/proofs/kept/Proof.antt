@@ -1,7 +1,5 @@
 -- `orders::kept` meets its contract. Assumes nothing.
-use lib.ListN.{length-set}
 use lib.Seq.{getD-set-same, getD-set-other}
-use native.Mathlib.Omega.{arith}
 use borrow.Author.Needs.{needs}
 use Rattle.orders.proofs.kept.Statement.{statement}
 use Rattle.orders.proofs.kept.Tie as tie

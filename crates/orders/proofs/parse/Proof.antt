@@ -2,7 +2,6 @@
 use lib.ListN.{drop}
 -- `orders::parse` meets its contract. Assumes nothing.
 use Rattle.orders.proofs.ParseLaws.{parse-empty, parse-variable, parse-letter, parse-long, parse-numbers, parse-bad, collected-some}
-use native.Mathlib.Omega.{arith}
 use borrow.Author.Needs.{needs}
 use Rattle.orders.proofs.parse.Statement.{statement}
 use Rattle.orders.proofs.parse.Tie as tie

@@ -1,6 +1,5 @@
 -- `orders::query` meets its contract. Assumes nothing.
 use Rattle.orders.proofs.ParseLaws.{query-two, query-else}
-use native.Mathlib.Omega.{arith}
 use borrow.Author.Needs.{needs}
 use Rattle.orders.proofs.query.Statement.{statement}
 use Rattle.orders.proofs.query.Tie as tie

@@ -1,6 +1,5 @@
 -- `orders::withdraw` meets its contract. Assumes nothing.
 use Rattle.orders.proofs.ParseLaws.{withdraw-one, withdraw-else}
-use native.Mathlib.Omega.{arith}
 use borrow.Author.Needs.{needs}
 use Rattle.orders.proofs.withdraw.Statement.{statement}
 use Rattle.orders.proofs.withdraw.Tie as tie

@@ -3,7 +3,6 @@ use Rattle.orders.specs.Grammar.{orderOf}
 -- `session::carry` meets its contract. Assumes nothing.
 use mathlib.Core.Path.{refl}
 use Rattle.session.proofs.OrderLaws.{children-few, carries-functor, carries-order}
-use native.Mathlib.Omega.{arith}
 use borrow.Author.Needs.{needs}
 use Rattle.session.proofs.carry.Statement.{statement}
 use Rattle.session.proofs.carry.Tie as tie

@@ -1,7 +1,6 @@
 -- `session::carry_functor` meets its contract. Assumes nothing.
 use Rattle.session.proofs.CarryLaws.{declares}
 -- `session::carry_functor` meets its contract. Assumes nothing.
-use native.Mathlib.Omega.{arith}
 use borrow.Author.Needs.{needs}
 use Rattle.session.proofs.carry_functor.Statement.{statement}
 use Rattle.session.proofs.carry_functor.Tie as tie

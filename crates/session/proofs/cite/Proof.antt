@@ -1,6 +1,5 @@
 -- `session::cite` meets its contract. Assumes nothing.
 use Rattle.session.proofs.CarryLaws.{cites-none, cites-some}
-use native.Mathlib.Omega.{arith}
 use borrow.Author.Needs.{needs}
 use Rattle.session.proofs.cite.Statement.{statement}
 use Rattle.session.proofs.cite.Tie as tie

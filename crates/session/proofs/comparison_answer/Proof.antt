@@ -1,7 +1,6 @@
 -- `session::comparison_answer` meets its contract. Assumes nothing.
 use mathlib.Core.Path.{refl}
 use Rattle.session.proofs.CarryLaws.{means-comparison}
-use native.Mathlib.Omega.{arith}
 use borrow.Author.Needs.{needs}
 use Rattle.session.proofs.comparison_answer.Statement.{statement}
 use Rattle.session.proofs.comparison_answer.Tie as tie

@@ -1,7 +1,6 @@
 -- `session::plain_answer` meets its contract. Assumes nothing.
 use mathlib.Core.Path.{refl}
 use Rattle.session.proofs.CarryLaws.{means-reply}
-use native.Mathlib.Omega.{arith}
 use borrow.Author.Needs.{needs}
 use Rattle.session.proofs.plain_answer.Statement.{statement}
 use Rattle.session.proofs.plain_answer.Tie as tie

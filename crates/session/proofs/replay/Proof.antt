@@ -1,6 +1,5 @@
 -- `session::replay` meets its contract. Assumes nothing.
 use Rattle.session.proofs.ReplayLaws.{too-long}
-use native.Mathlib.Omega.{arith}
 use borrow.Author.Needs.{needs}
 use Rattle.session.proofs.replay.Statement.{statement}
 use Rattle.session.proofs.replay.Tie as tie

@@ -1,7 +1,6 @@
 -- `session::tell` meets its contract. Assumes nothing.
 use mathlib.Core.Path.{refl}
 use Rattle.session.proofs.CarryLaws.{telling}
-use native.Mathlib.Omega.{arith}
 use borrow.Author.Needs.{needs}
 use Rattle.session.proofs.tell.Statement.{statement}
 use Rattle.session.proofs.tell.Tie as tie

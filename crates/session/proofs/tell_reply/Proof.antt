@@ -1,6 +1,5 @@
 -- `session::tell_reply` meets its contract. Assumes nothing.
 use Rattle.session.proofs.CarryLaws.{replying}
-use native.Mathlib.Omega.{arith}
 use borrow.Author.Needs.{needs}
 use Rattle.session.proofs.tell_reply.Statement.{statement}
 use Rattle.session.proofs.tell_reply.Tie as tie
