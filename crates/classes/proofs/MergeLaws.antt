@@ -103,3 +103,11 @@ merge-flip t r a b l J m =
       to = λ x y hx hy e. flip t b a x y (m .to x y hx hy e);
       from = λ x y hx hy j. m .from x y hx hy (flip t a b x y j);
     }
+
+-- by class numbers
+pub unite-up : (t r : List ℕ) (c d a b : ℕ) → Table t → a < 64 → b < 64 → c ≡ class t a → d ≡ class t b → c ≤ d → Relabelled t c d r → Merged t a b r
+unite-up t r c d a b T ha hb e f l J = merge t r a b ha hb T (rw (sym e, sym f) l) (rw (sym e, sym f) J)
+
+pub unite-down : (t r : List ℕ) (c d a b : ℕ) → Table t → a < 64 → b < 64 → c ≡ class t a → d ≡ class t b → d < c → Relabelled t d c r → Merged t a b r
+unite-down t r c d a b T ha hb e f l J =
+    merge-flip t r a b (rw (sym e, sym f) l) (rw (sym e, sym f) J) (merge t r b a hb ha T (omega (arith, e, f)) (rw (sym e, sym f) J))

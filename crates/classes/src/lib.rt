@@ -1,6 +1,6 @@
 // Class tables of 64 nodes, merges of classes, and the members of a class.
 ghost use mathlib.Core.Path.{_≡_};
-ghost use Prim.Native.Nat.{_<_};
+ghost use Prim.Native.Nat.{ℕ, _<_};
 ghost use Rattle.classes.specs.Table.{class, Fresh, Relabelled, Table, Merged};
 ghost use Rattle.classes.specs.Members.{inClass, setOf, sizeOf, lowestFrom};
 
@@ -32,6 +32,18 @@ fn relabel(table: [u8; 64], keep: u8, gone: u8) -> [u8; 64]
     out
 }
 
+// Two classes become one, under the lower number.
+pub fn unite(table: [u8; 64], c: u8, d: u8) -> [u8; 64]
+    requires { ⌜ Table table ⌝ }
+    ensures { λ r. ⌜ ((a b : ℕ) → a < 64 → b < 64 → c ≡ class table a → d ≡ class table b → Merged table a b r) ⌝ }
+{
+    if c <= d {
+        relabel(table, c, d)
+    } else {
+        relabel(table, d, c)
+    }
+}
+
 // The classes of `a` and `b` become one, under the lower number.
 pub fn merge(table: [u8; 64], a: u8, b: u8) -> [u8; 64]
     requires { ⌜ Table table ⌝ }
@@ -40,11 +52,7 @@ pub fn merge(table: [u8; 64], a: u8, b: u8) -> [u8; 64]
 {
     let ca = table[a as usize];
     let cb = table[b as usize];
-    if ca <= cb {
-        relabel(table, ca, cb)
-    } else {
-        relabel(table, cb, ca)
-    }
+    unite(table, ca, cb)
 }
 
 // The members of class `c`, one bit for each node.

@@ -62,7 +62,9 @@ pub fn replay<'a>(
         let b = trim::end_of(e, e % 64, right, child);
         let more = step(buf, m, nodes, table, e, a, b, name, to);
         m = more;
-        let next = classes::merge(table, a, b);
+        let ca = table[a as usize];
+        let cb = table[b as usize];
+        let next = classes::unite(table, ca, cb);
         table = next;
         k += 1;
     }

@@ -64,8 +64,10 @@ pub fn join_equations(
     while k < m {
         let x = left[k];
         let y = right[k];
-        if t[wide(x)] != t[wide(y)] {
-            let next = classes::merge(t, x, y);
+        let cx = t[wide(x)];
+        let cy = t[wide(y)];
+        if cx != cy {
+            let next = classes::unite(t, cx, cy);
             trace[n] = k as u16;
             t = next;
             n += 1;
@@ -98,9 +100,11 @@ pub fn join_children(
     while k < places {
         let x = child[4 * u + k];
         let y = child[4 * v + k];
-        if t[wide(x)] != t[wide(y)] {
+        let cx = t[wide(x)];
+        let cy = t[wide(y)];
+        if cx != cy {
             let reason = (k + 1) * 4096 + u * 64 + v;
-            let next = classes::merge(t, x, y);
+            let next = classes::unite(t, cx, cy);
             trace[n] = reason as u16;
             t = next;
             n += 1;

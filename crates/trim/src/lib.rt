@@ -26,8 +26,8 @@ pub fn end_of<'a>(reason: u16, node: u16, ends: &'a [u8; 256], child: &'a [u8; 2
 }
 
 // The entry's nodes are of one class, where it has two.
-fn together(table: [u8; 64], reason: u16) -> bool
-    ensures { λ r. ⌜ (r ≡ true → Together table reason) ⌝ }
+fn together(table: &[u8; 64], reason: u16) -> bool
+    ensures { λ r. ⌜ (r ≡ true → Together (now (table .entry)) reason) ⌝ }
 {
     if reason < 4096 {
         return true;
@@ -75,13 +75,15 @@ fn joins<'a>(
         let e = trace[k];
         let a = end_of(e, e / 64 % 64, left, child);
         let b = end_of(e, e % 64, right, child);
-        if table[a as usize] == table[b as usize] {
+        let ca = table[a as usize];
+        let cb = table[b as usize];
+        if ca == cb {
             return false;
         }
-        if !together(table, e) {
+        if !together(&table, e) {
             return false;
         }
-        let next = classes::merge(table, a, b);
+        let next = classes::unite(table, ca, cb);
         table = next;
         k += 1;
     }

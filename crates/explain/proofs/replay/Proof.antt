@@ -1,6 +1,7 @@
 -- `explain::replay` meets its contract: after k turns the table and the lines are those of the first k entries. Assumes nothing.
 use native.Mathlib.Omega.{arith}
 use borrow.Author.Needs.{needs}
+use mathlib.Core.Path.{refl}
 use Prim.Native.Nat.{_≤_, _-_}
 use Rattle.explain.specs.Replay.{Retracing}
 use Rattle.explain.proofs.RetraceLaws.{rising, retracing-none, retracing-more, retraced}
@@ -49,12 +50,28 @@ step-requires c κs =
       ((R .size, (rw (b .before .end-of .ensures) (r .lefts), rw (b .end-of2 .ensures) (r .rights))), r .held),
     )
 
-merge-requires : tie.Need-merge-requires Inv-loop μ-loop
-merge-requires c κs =
+array-read-ca : tie.Need-array-read-ca Inv-loop μ-loop
+array-read-ca c =
     let b = c .before .before .before .before .before in
     let a = b .before .before .before .before in
     let r = a .before .before .before .pre .1 .1 .1 (a .loop .k) (search needs) in
-    (a .loop .inv .1 .made .table, (rw (b .before .end-of .ensures) (r .lefts), rw (b .end-of2 .ensures) (r .rights)))
+    omega (arith, b .before .end-of .ensures, r .lefts)
+
+array-read-cb : tie.Need-array-read-cb Inv-loop μ-loop
+array-read-cb c =
+    let b = c .before .before .before .before .before in
+    let a = b .before .before .before .before in
+    let r = a .before .before .before .pre .1 .1 .1 (a .loop .k) (search needs) in
+    omega (arith, b .end-of2 .ensures, r .rights)
+
+cast-ca : tie.Need-cast-ca Inv-loop μ-loop
+cast-ca c = search needs
+
+cast-cb : tie.Need-cast-cb Inv-loop μ-loop
+cast-cb c = search needs
+
+unite-requires : tie.Need-unite-requires Inv-loop μ-loop
+unite-requires c κs = c .before .before .before .before .before .before .before .before .before .loop .inv .1 .made .table
 
 add-k : tie.Need-add-k Inv-loop μ-loop
 add-k c = search needs
@@ -67,9 +84,10 @@ loop-again c =
     let q = c .before .before .before in
     let b = q .before .before .before in
     let a = b .before .before .before .before in
-    let S = a .before .before .before in (
+    let S = a .before .before .before in
+    let r = S .pre .1 .1 .1 (a .loop .k) (search needs) in (
       search needs,
-      retracing-more (a .loop .inv .1) (search needs) (omega (arith, S .pre .1 .1 .0, S .pre .0 .1 .1 .0)) (b .before .end-of .ensures) (b .end-of2 .ensures) (q .step .ensures) (c .merge .ensures),
+      retracing-more (a .loop .inv .1) (search needs) (omega (arith, S .pre .1 .1 .0, S .pre .0 .1 .1 .0)) (b .before .end-of .ensures) (b .end-of2 .ensures) (q .step .ensures) (c .unite .ensures _ _ (rw (b .before .end-of .ensures) (r .lefts)) (rw (b .end-of2 .ensures) (r .rights)) refl refl),
     )
 
 same-length : tie.Need-same-length Inv-loop μ-loop
@@ -91,7 +109,11 @@ replay-spec =
     end-of-requires
     end-of-requires-2
     step-requires
-    merge-requires
+    cast-ca
+    array-read-ca
+    cast-cb
+    array-read-cb
+    unite-requires
     add-k
     loop-less
     loop-again

@@ -1,8 +1,10 @@
 -- `trace::join_equations` meets its contract: after k turns the first k equations are joined. Assumes nothing.
+use mathlib.Core.Path.{ap}
 use mathlib.Core.Logic.{⊎-elim}
 use Prim.Native.Nat.{ℕ, _≤_, _-_}
 use lib.ListN.{getD}
 use Rattle.trace.specs.Nodes.{Ends}
+use Rattle.classes.specs.Table.{class}
 use Rattle.trace.specs.Steps.{grown, Pairs}
 use Rattle.trace.proofs.ReasonLaws.{entry-is, by-equation}
 use Rattle.trace.proofs.StepLaws.{ready-room, pairs-none, pairs-more, pairs-skip, pairs-all}
@@ -30,23 +32,21 @@ element-copy-out-y c = search needs
 wide-requires : tie.Need-wide-requires Inv-loop μ-loop
 wide-requires c κs = search needs
 
-array-read-if1 : tie.Need-array-read-if1 Inv-loop μ-loop
-array-read-if1 c =
+array-read-cx : tie.Need-array-read-cx Inv-loop μ-loop
+array-read-cx c =
     let a = c .before .before .before .before in
     omega (arith, c .wide .ensures, a .before .pre .1 .1 (a .loop .k) (search needs) .0)
 
 wide-requires-2 : tie.Need-wide-requires-2 Inv-loop μ-loop
 wide-requires-2 c κs = search needs
 
-array-read-if1-2 : tie.Need-array-read-if1-2 Inv-loop μ-loop
-array-read-if1-2 c =
+array-read-cy : tie.Need-array-read-cy Inv-loop μ-loop
+array-read-cy c =
     let a = c .before .before .before .before .before in
     omega (arith, c .wide2 .ensures, a .before .pre .1 .1 (a .loop .k) (search needs) .1)
 
-merge-requires : tie.Need-merge-requires Inv-loop μ-loop
-merge-requires c κs =
-    let a = c .before .before .before .before .before .before in
-    (a .loop .inv .1 .extends .ready .table, a .before .pre .1 .1 (a .loop .k) (search needs))
+unite-requires : tie.Need-unite-requires Inv-loop μ-loop
+unite-requires c κs = c .before .before .before .before .before .before .loop .inv .1 .extends .ready .table
 
 cast-trace : tie.Need-cast-trace Inv-loop μ-loop
 cast-trace c = search needs
@@ -81,7 +81,7 @@ loop-again c =
       ⊎-elim
           (λ w. rw (w .2, w .3, w .4)
           (pairs-more _ _ _ (a .loop .k) _ (λ j h. H .1 j (omega arith)) (λ s E. entry-is _ (omega arith) (by-equation _ _ _ _ s (a .loop .k) (search needs) E)) P
-          (grown (rw (← w1 .wide .ensures, ← w2 .wide2 .ensures) (w .0 .taken)) (w .1 .ensures))))
+          (grown (rw (← w1 .wide .ensures, ← w2 .wide2 .ensures) (w .0 .taken)) (w .1 .ensures _ _ (H .1 (a .loop .k) (search needs) .0) (H .1 (a .loop .k) (search needs) .1) (ap (class (a .loop .t)) (w1 .wide .ensures)) (ap (class (a .loop .t)) (w2 .wide2 .ensures))))))
           (λ w. rw (w .1, w .2, w .3) (pairs-skip _ _ _ (a .loop .k) (rw (← w1 .wide .ensures, ← w2 .wide2 .ensures) (w .0 .left)) P))
           (c .if1 .came),
     )
@@ -99,10 +99,10 @@ join-equations-spec =
     element-copy-out-x
     element-copy-out-y
     wide-requires
-    array-read-if1
+    array-read-cx
     wide-requires-2
-    array-read-if1-2
-    merge-requires
+    array-read-cy
+    unite-requires
     cast-trace
     mul-trace
     element-write-trace

@@ -2,7 +2,7 @@
 use native.Mathlib.Omega.{arith}
 use borrow.Author.Needs.{needs}
 use Prim.Native.Nat.{ℕ, _≤_, _-_}
-use mathlib.Core.Path.{_≡_}
+use mathlib.Core.Path.{_≡_, refl}
 use Rattle.trim.specs.Trim.{Rebuilt}
 use Rattle.trim.proofs.TrimLaws.{passed, rebuilt-none, rebuilt-more, rejoins}
 use Rattle.trim.proofs.joins.Statement.{statement}
@@ -39,20 +39,20 @@ end-of-requires-2 c κs =
     let r = a .before .before .pre .0 .1 .1 (a .loop .k) (search needs) in
     (r .held, (r .placed, search needs))
 
-cast-if1 : tie.Need-cast-if1 Inv-loop μ-loop
-cast-if1 c = search needs
+cast-ca : tie.Need-cast-ca Inv-loop μ-loop
+cast-ca c = search needs
 
-array-read-if1 : tie.Need-array-read-if1 Inv-loop μ-loop
-array-read-if1 c =
+array-read-ca : tie.Need-array-read-ca Inv-loop μ-loop
+array-read-ca c =
     let a = c .before .before .before .before in
     let r = a .before .before .pre .0 .1 .1 (a .loop .k) (search needs) in
     omega (arith, c .before .end-of .ensures, r .lefts)
 
-cast-if1-2 : tie.Need-cast-if1-2 Inv-loop μ-loop
-cast-if1-2 c = search needs
+cast-cb : tie.Need-cast-cb Inv-loop μ-loop
+cast-cb c = search needs
 
-array-read-if1-2 : tie.Need-array-read-if1-2 Inv-loop μ-loop
-array-read-if1-2 c =
+array-read-cb : tie.Need-array-read-cb Inv-loop μ-loop
+array-read-cb c =
     let a = c .before .before .before .before in
     let r = a .before .before .pre .0 .1 .1 (a .loop .k) (search needs) in
     omega (arith, c .end-of2 .ensures, r .rights)
@@ -66,12 +66,8 @@ together-requires c κs = search needs
 returns-2 : tie.Need-returns-2 Inv-loop μ-loop
 returns-2 c = λ q. absurd (let z : _≡_ {A = ℕ} 0 1 = cc in omega arith)
 
-merge-requires : tie.Need-merge-requires Inv-loop μ-loop
-merge-requires c κs =
-    let b = c .before .before .before in
-    let a = b .before .before .before .before in
-    let r = a .before .before .pre .0 .1 .1 (a .loop .k) (search needs) in
-    (a .loop .inv .1 .table, (rw (b .before .end-of .ensures) (r .lefts), rw (b .end-of2 .ensures) (r .rights)))
+unite-requires : tie.Need-unite-requires Inv-loop μ-loop
+unite-requires c κs = c .before .before .before .before .before .before .before .before .loop .inv .1 .table
 
 add-k : tie.Need-add-k Inv-loop μ-loop
 add-k c = search needs
@@ -81,12 +77,14 @@ loop-less c = search needs
 
 loop-again : tie.Need-loop-again Inv-loop μ-loop
 loop-again c =
-    let b = c .before .before .before .before in
+    let b = c .before .before .before .before .before in
     let a = b .before .before .before .before in
-    let S = a .before .before in (
+    let S = a .before .before in
+    let r = S .pre .0 .1 .1 (a .loop .k) (search needs) in (
       search needs,
       rebuilt-more (a .loop .inv .1) (search needs) (omega (arith, S .pre .0 .0, S .pre .0 .1 .0)) (b .before .end-of .ensures) (b .end-of2 .ensures)
-          (c .before .before .before .if1 .left) (c .before .before .together .ensures (passed _ (c .before .if2 .left))) (c .merge .ensures),
+          (c .before .before .before .before .if1 .left) (c .before .before .together .ensures (passed _ (c .before .if2 .left)))
+          (c .unite .ensures _ _ (rw (b .before .end-of .ensures) (r .lefts)) (rw (b .end-of2 .ensures) (r .rights)) refl refl),
     )
 
 array-read-if3 : tie.Need-array-read-if3 Inv-loop μ-loop
@@ -116,14 +114,14 @@ joins-spec =
     element-copy-out-e
     end-of-requires
     end-of-requires-2
-    cast-if1
-    array-read-if1
-    cast-if1-2
-    array-read-if1-2
+    cast-ca
+    array-read-ca
+    cast-cb
+    array-read-cb
     returns
     together-requires
     returns-2
-    merge-requires
+    unite-requires
     add-k
     loop-less
     loop-again

@@ -1,0 +1,21 @@
+-- `classes::unite` meets its contract.
+-- Assumes nothing.
+use borrow.Author.Needs.{needs}
+use Rattle.classes.proofs.MergeLaws.{unite-up, unite-down}
+use Rattle.classes.proofs.unite.Statement.{statement}
+use Rattle.classes.proofs.unite.Tie as tie
+
+relabel-requires : tie.Need-relabel-requires
+relabel-requires c κs = search needs
+
+relabel-requires-2 : tie.Need-relabel-requires-2
+relabel-requires-2 c κs = search needs
+
+returns : tie.Need-returns
+returns c = λ a b ha hb e f. unite-up _ _ _ _ a b (search needs) ha hb e f (search needs) (c .relabel .ensures)
+
+returns-2 : tie.Need-returns-2
+returns-2 c = λ a b ha hb e f. unite-down _ _ _ _ a b (search needs) ha hb e f (c .before .if1 .left) (c .relabel2 .ensures)
+
+pub unite-spec : {M : Type 1} → statement M
+unite-spec = tie.close (tie.spec relabel-requires relabel-requires-2 returns returns-2)
