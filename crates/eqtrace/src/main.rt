@@ -1,4 +1,4 @@
 // The program `eqtrace`.
 fn main() {
-    console::run();
+    let _end = console::run();
 }

@@ -1,4 +1,4 @@
 // An empty input.
 fn main() {
-    console::run();
+    let _end = console::run();
 }

@@ -2,7 +2,7 @@
 use mathlib.Core.Path.{_≡_, refl}
 use Prim.Native.Nat.{_+_, _-_}
 use lib.ListN.{length}
-use Rattle.session.proofs.ReplayLaws.{Sofar, sofar-none, number-small, sofar-more, text-inside}
+use Rattle.session.proofs.ReplayLaws.{Sofar, sofar-none, number-small, sofar-more, sofar-all, text-inside}
 use native.Mathlib.Omega.{arith}
 use borrow.Author.Needs.{needs}
 use Rattle.console.proofs.answer_all.Statement.{statement}
@@ -54,7 +54,7 @@ same-length-3 : tie.Need-same-length-3 Inv-loop μ-loop
 same-length-3 c = search needs
 
 returns : tie.Need-returns Inv-loop μ-loop
-returns c = search needs
+returns c = let I = c .before .loop .inv in sofar-all _ _ _ _ (I .0) (c .before .before .before .before .before .before .before .pre .0) (c .loop-test .left)
 
 pub answer-all-spec : {M : Type 1} → statement M
 answer-all-spec =
