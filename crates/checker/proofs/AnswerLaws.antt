@@ -9,7 +9,7 @@ use lib.Seq.{length-take-le}
 use borrow.Author.Tests.{eq-eqb, ne-eqb, lt-ltb, le-ltb}
 use Rattle.graph.specs.State.{State}
 use Rattle.graph.specs.Lines.{checked}
-use Rattle.graph.specs.Goals.{Goal, Meaning, shows, ended, Judgement, passed, refused, judgeEnd, judge, Passes, Cites}
+use Rattle.graph.specs.Goals.{Goal, Meaning, shows, ended, Judgement, passed, refused, broken-line, judgeEnd, judge, Passes, Cites}
 use Rattle.graph.proofs.CheckerLaws.{judge-sound, passes-cites}
 use Rattle.lines.specs.Codec.{linesOf}
 use Rattle.lines.specs.Proof.{ProofIn}
@@ -20,17 +20,17 @@ use Rattle.checker.specs.declared.Walked.the-variants.{Ends, Breaks}
 use Rattle.checker.specs.Answers.{walked, badLength, answerTo}
 
 module _ (s : State) (g : Goal) (bs : List ℕ) where
-  pub answer-none : length bs ≡ 0 → refused 11 0 ≡ answerTo s g bs
+  pub answer-none : length bs ≡ 0 → refused 11 ≡ answerTo s g bs
   unfolding answerTo
   answer-none e = rw (eq-eqb _ _ e)
 
   module _ (one : length bs ≡ 0 → ⊥) where
-    pub answer-long : 65536 < length bs → refused 11 0 ≡ answerTo s g bs
+    pub answer-long : 65536 < length bs → refused 11 ≡ answerTo s g bs
     unfolding answerTo
     answer-long h = rw (ne-eqb _ _ one, lt-ltb _ _ h)
 
     module _ (few : length bs ≤ 65536) where
-      pub answer-part : (length bs % 8 ≡ 0 → ⊥) → refused 11 0 ≡ answerTo s g bs
+      pub answer-part : (length bs % 8 ≡ 0 → ⊥) → refused 11 ≡ answerTo s g bs
       unfolding answerTo
       answer-part e = rw (ne-eqb _ _ one, le-ltb _ _ few, ne-eqb _ _ e)
 
@@ -44,13 +44,13 @@ module _ (s : State) (g : Goal) (bs : List ℕ) where
           ending = ap (judgeEnd (s .nodes) g) w ∙ judges
 
           -- j is the line that the code gives
-          pub answer-breaks : (i j : ℕ) → r ≡ Breaks i → j ≡ i → refused 12 j ≡ answerTo s g bs
-          answer-breaks i j e q = ap (refused 12) q ∙ ap (λ (x : Walked). judgeEnd (s .nodes) g (walked x)) (sym e) ∙ ending
+          pub answer-breaks : (i j : ℕ) → r ≡ Breaks i → j ≡ i → broken-line j ≡ answerTo s g bs
+          answer-breaks i j e q = ap broken-line q ∙ ap (λ (x : Walked). judgeEnd (s .nodes) g (walked x)) (sym e) ∙ ending
 
           -- b is the code's answer to whether the last claim shows the goal, j its answer to the call
-          pub answer-ends : (k u v : ℕ) → r ≡ Ends k u v → (b : Bool) → b ≡ shows (s .nodes) g (claimBy k u v) → (j : Judgement) → j ≡ cond b passed (refused 13 0) → j ≡ answerTo s g bs
+          pub answer-ends : (k u v : ℕ) → r ≡ Ends k u v → (b : Bool) → b ≡ shows (s .nodes) g (claimBy k u v) → (j : Judgement) → j ≡ cond b passed (refused 13) → j ≡ answerTo s g bs
           answer-ends k u v e b q j d =
-              d ∙ ap (λ (t : Bool). cond t passed (refused 13 0)) q ∙ ap (λ (x : Walked). judgeEnd (s .nodes) g (walked x)) (sym e) ∙ ending
+              d ∙ ap (λ (t : Bool). cond t passed (refused 13)) q ∙ ap (λ (x : Walked). judgeEnd (s .nodes) g (walked x)) (sym e) ∙ ending
 
 -- what passes is judged so
 module _ (s : State) (g : Goal) (bs : List ℕ) (e : answerTo s g bs ≡ passed) where
@@ -58,7 +58,7 @@ module _ (s : State) (g : Goal) (bs : List ℕ) (e : answerTo s g bs ≡ passed)
   unfolding answerTo
   check-passes = go (badLength (length bs)) e
     where
-      go : (b : Bool) → cond b (refused 11 0) (judge s g (linesOf bs)) ≡ passed → Passes s g (linesOf bs)
+      go : (b : Bool) → cond b (refused 11) (judge s g (linesOf bs)) ≡ passed → Passes s g (linesOf bs)
       go true q = absurd (let z : _≡_ {A = ℕ} 0 1 = cc in omega arith)
       go false q = q
 

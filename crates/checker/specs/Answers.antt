@@ -1,7 +1,7 @@
 -- The checker's answers in document 01's terms.
 --   walked      how the code's walk over the lines ended
 --   goalOf      the thing to be shown
---   judgedAs    the code's answer: passed, or document 01's refusal number, with 12 the line
+--   judgedAs    the code's answer: passed, a refusal's number, or the line of refusal 12
 --   badLength   refusal 11's case: 0 bytes, over 65,536, or no multiple of 8
 --   answerTo    the answer to a proof's bytes: 11, then 12 with the first line that breaks its rule, then 13, or passed
 -- Assumes nothing: these are definitions.
@@ -11,7 +11,7 @@ use Prim.Native.Nat.{ℕ, _%_}
 use lib.ListN.{length}
 use lib.Dec.{eqb, ltb}
 use Rattle.graph.specs.State.{State}
-use Rattle.graph.specs.Goals.{Goal as GraphGoal, clash-goal, cycle-goal, same-goal, below-goal, Ended, ends, breaks, Judgement, passed, refused, judge}
+use Rattle.graph.specs.Goals.{Goal as GraphGoal, clash-goal, cycle-goal, same-goal, below-goal, Ended, ends, breaks, Judgement, passed, refused, broken-line, judge}
 use Rattle.lines.specs.Codec.{linesOf}
 use Rattle.rules.specs.Rules.{claimBy}
 use Rattle.checker.specs.declared.Walked.{Walked}
@@ -19,7 +19,7 @@ use Rattle.checker.specs.declared.Walked.the-variants.{Ends, Breaks}
 use Rattle.checker.specs.declared.Goal.{Goal}
 use Rattle.checker.specs.declared.Goal.the-variants.{Clash, Cycle, Same, Below}
 use Rattle.checker.specs.declared.Judged.{Judged}
-use Rattle.checker.specs.declared.Judged.the-variants.{Passes, Refused}
+use Rattle.checker.specs.declared.Judged.the-variants.{Passes, Refused, Broken}
 
 abbrev pub walked : Walked → Ended
 walked (Ends k u v) = ends (claimBy k u v)
@@ -33,10 +33,11 @@ goalOf (Below u v) = below-goal u v
 
 abbrev pub judgedAs : Judged → Judgement
 judgedAs Passes = passed
-judgedAs (Refused n i) = refused n i
+judgedAs (Refused n) = refused n
+judgedAs (Broken i) = broken-line i
 
 abbrev pub badLength : ℕ → Bool
 badLength n = eqb n 0 || (ltb 65536 n || not (eqb (n % 8) 0))
 
 unfoldable pub answerTo : State → GraphGoal → List ℕ → Judgement
-answerTo s g bs = cond (badLength (length bs)) (refused 11 0) (judge s g (linesOf bs))
+answerTo s g bs = cond (badLength (length bs)) (refused 11) (judge s g (linesOf bs))

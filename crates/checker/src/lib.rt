@@ -32,10 +32,11 @@ pub enum Goal {
     Below(u8, u8),
 }
 
-// The lines pass, or a refusal's number with, for 12, the line.
+// The lines pass, a refusal's number, or refusal 12 with the line.
 pub enum Judged {
     Passes,
-    Refused(u8, usize),
+    Refused(u8),
+    Broken(usize),
 }
 
 // Takes each line in turn, with the claims of those before it in three arrays.
@@ -182,13 +183,13 @@ pub fn check<'a>(
 {
     let size = bytes.len();
     if size == 0 {
-        return Judged::Refused(11, 0);
+        return Judged::Refused(11);
     }
     if size > 65536 {
-        return Judged::Refused(11, 0);
+        return Judged::Refused(11);
     }
     if size % 8 != 0 {
-        return Judged::Refused(11, 0);
+        return Judged::Refused(11);
     }
     match walk(
         kind,
@@ -203,12 +204,12 @@ pub fn check<'a>(
         offer,
         bytes,
     ) {
-        Walked::Breaks(i) => Judged::Refused(12, i),
+        Walked::Breaks(i) => Judged::Broken(i),
         Walked::Ends(k, u, v) => {
             if shows_goal(kind, symbol, arity, child, n, goal, k, u, v) {
                 Judged::Passes
             } else {
-                Judged::Refused(13, 0)
+                Judged::Refused(13)
             }
         }
     }

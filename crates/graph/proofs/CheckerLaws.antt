@@ -224,7 +224,7 @@ module _ (s : State) where
   judge-ok : (g : Goal) (e : Ended) → IfEnds e → judgeEnd (s .nodes) g e ≡ passed → Meaning s g
   judge-ok g (ends c) w q = go (shows (s .nodes) g c) refl q
     where
-      go : (t : Bool) → shows (s .nodes) g c ≡ t → cond t passed (refused 13 0) ≡ passed → Meaning s g
+      go : (t : Bool) → shows (s .nodes) g c ≡ t → cond t passed (refused 13) ≡ passed → Meaning s g
       go true r q = shows-ok g c w r
       go false r q = absurd (let z : _≡_ {A = ℕ} 0 1 = cc in omega arith)
   judge-ok g (breaks k) w q = absurd (let z : _≡_ {A = ℕ} 0 1 = cc in omega arith)

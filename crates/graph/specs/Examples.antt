@@ -17,7 +17,7 @@ use Rattle.graph.specs.Closure.{Same, Clash, Cycle}
 use Rattle.graph.specs.Solution.{Solution}
 use Rattle.graph.specs.Verdict.{Verdict}
 use Rattle.graph.specs.Lines.{Line}
-use Rattle.graph.specs.Goals.{Goal, clash-goal, cycle-goal, same-goal, below-goal, refused, judge, Passes}
+use Rattle.graph.specs.Goals.{Goal, clash-goal, cycle-goal, same-goal, below-goal, refused, broken-line, judge, Passes}
 use Rattle.graph.specs.Book.{Call, declare, equate, withdraw, Reply, number, held, gone, Answer, early, Refusal, answer, Runs}
 use Rattle.graph.specs.Book as book
 
@@ -193,11 +193,11 @@ pub record Nothing : Type 0 where
   -- up to the parent and down another edge: not the same, no list of lines shows it, and the lines that one would write break rule 4
   pub siblings-apart : Same siblings 0 1 → ⊥
   pub siblings-unproved : (ls : List Line) → Passes siblings (same-goal 0 1) ls → ⊥
-  pub siblings-lines : judge siblings (same-goal 0 1) (child-line 2 1 ∷ child-line 2 2 ∷ turned-line 0 ∷ joined-line 2 1 ∷ []) ≡ refused 12 2
+  pub siblings-lines : judge siblings (same-goal 0 1) (child-line 2 1 ∷ child-line 2 2 ∷ turned-line 0 ∷ joined-line 2 1 ∷ []) ≡ broken-line 2
   -- down to the child and up another edge
   pub parents-apart : Same parents 1 2 → ⊥
   pub parents-unproved : (ls : List Line) → Passes parents (same-goal 1 2) ls → ⊥
-  pub parents-lines : judge parents (same-goal 1 2) (child-line 1 1 ∷ child-line 2 1 ∷ turned-line 1 ∷ joined-line 0 2 ∷ []) ≡ refused 12 2
+  pub parents-lines : judge parents (same-goal 1 2) (child-line 1 1 ∷ child-line 2 1 ∷ turned-line 1 ∷ joined-line 0 2 ∷ []) ≡ broken-line 2
   -- the closure goes down only
   pub no-congruence : Same congruent 2 3 → ⊥
   -- a cycle is looked for any number of steps down: 0 variable, 1 = f(0), 2 = f(1); 0 = 2
@@ -211,7 +211,7 @@ pair = stateWith (variable ∷ variable ∷ functor 7 (0 ∷ []) ∷ functor 7 (
 
 -- the goal is passed with the good line at the end; with the bad one in its place, that line breaks its rule
 abbrev pub Spoilt : Goal → List Line → Line → Line → Type 0
-Spoilt g ls good bad = Passes pair g (ls ++ (good ∷ [])) × (judge pair g (ls ++ (bad ∷ [])) ≡ refused 12 (length ls))
+Spoilt g ls good bad = Passes pair g (ls ++ (good ∷ [])) × (judge pair g (ls ++ (bad ∷ [])) ≡ broken-line (length ls))
 
 pub record Untidy : Type 0 where
   pub equation-place : Spoilt (same-goal 2 3) [] (equation-line 10) (line 1 1 10 0 0)
@@ -234,7 +234,7 @@ pub record Untidy : Type 0 where
 
 -- line k of these is the first that breaks its rule
 abbrev pub BreaksAt : ℕ → List Line → Type 0
-BreaksAt k ls = judge pair (same-goal 2 3) ls ≡ refused 12 k
+BreaksAt k ls = judge pair (same-goal 2 3) ls ≡ broken-line k
 
 pub record Broken : Type 0 where
   pub rule-0 : BreaksAt 0 (line 0 0 0 0 0 ∷ [])
@@ -259,13 +259,13 @@ pub record Broken : Type 0 where
   pub down-place-0 : BreaksAt 1 (equation-line 10 ∷ down-line 0 0 ∷ [])
   pub down-place-2 : BreaksAt 1 (equation-line 10 ∷ down-line 0 2 ∷ [])
   -- symbol 7 with one child and with two: labels that aren't equal
-  pub down-labels : judge (offered arities (equationOf 10 1 2)) (same-goal 0 0) (equation-line 10 ∷ down-line 0 1 ∷ []) ≡ refused 12 1
+  pub down-labels : judge (offered arities (equationOf 10 1 2)) (same-goal 0 0) (equation-line 10 ∷ down-line 0 1 ∷ []) ≡ broken-line 1
   -- each line keeps its rule, and the last doesn't show the goal: 13
-  pub cycle-wanted : judge pair cycle-goal (self-line 0 ∷ []) ≡ refused 13 0
-  pub clash-wanted : judge pair clash-goal (equation-line 10 ∷ []) ≡ refused 13 0
-  pub other-way-wanted : judge pair (same-goal 3 2) (equation-line 10 ∷ []) ≡ refused 13 0
-  pub below-wanted : judge pair (below-goal 2 3) (equation-line 10 ∷ []) ≡ refused 13 0
-  pub no-lines : judge pair (same-goal 2 3) [] ≡ refused 13 0
+  pub cycle-wanted : judge pair cycle-goal (self-line 0 ∷ []) ≡ refused 13
+  pub clash-wanted : judge pair clash-goal (equation-line 10 ∷ []) ≡ refused 13
+  pub other-way-wanted : judge pair (same-goal 3 2) (equation-line 10 ∷ []) ≡ refused 13
+  pub below-wanted : judge pair (below-goal 2 3) (equation-line 10 ∷ []) ≡ refused 13
+  pub no-lines : judge pair (same-goal 2 3) [] ≡ refused 13
   -- lines that show a clash and a cycle pass
   pub clash-shown : Passes (offered arities (equationOf 10 1 2)) clash-goal (equation-line 10 ∷ [])
   pub cycle-shown : Passes (offered loop (equationOf 10 0 1)) cycle-goal (equation-line 10 ∷ child-line 1 1 ∷ joined-line 0 1 ∷ [])

@@ -2,7 +2,7 @@
 --   Goal      document 01's "thing to be shown": a clash, a cycle, same(u, v), below(u, v)
 --   Meaning   what the goal says of the closure
 --   shows     a claim shows a goal
---   judge     the checker's definition: passed; or refused, with 12 and the first line that breaks its rule, or with 13
+--   judge     the checker's definition: passed, refusal 12 at the first line that breaks its rule, or refusal 13
 --   Cites     each equation line names an equation of the state
 -- Assumes nothing: these are definitions.
 use mathlib.Core.Path.{_≡_}
@@ -59,15 +59,16 @@ abbrev pub ended : Checked → Ended
 ended (all cs) = lastOf cs
 ended (broken k) = breaks k
 
--- a refusal has its number in document 01 and, with 12, the line
+-- a refusal has its number in document 01; 12 has a case of its own, with the line
 pub data Judgement : Type 0 where
   passed : Judgement
-  refused : ℕ → ℕ → Judgement
+  refused : ℕ → Judgement
+  broken-line : ℕ → Judgement
 
 abbrev pub judgeEnd : List Node → Goal → Ended → Judgement
-judgeEnd ns g (ends c) = cond (shows ns g c) passed (refused 13 0)
-judgeEnd ns g (breaks k) = refused 12 k
-judgeEnd ns g empty = refused 13 0
+judgeEnd ns g (ends c) = cond (shows ns g c) passed (refused 13)
+judgeEnd ns g (breaks k) = broken-line k
+judgeEnd ns g empty = refused 13
 
 abbrev pub judge : State → Goal → List Line → Judgement
 judge s g ls = judgeEnd (s .nodes) g (ended (checked s [] ls))

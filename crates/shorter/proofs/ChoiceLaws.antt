@@ -10,7 +10,7 @@ use lib.ListN.{length}
 use lib.Dec.{ltb}
 use borrow.Author.Tests.{lt-ltb, le-ltb, ltb-true, ltb-false}
 use Rattle.graph.specs.State.{State, Equation}
-use Rattle.graph.specs.Goals.{Goal, Judgement, passed, refused}
+use Rattle.graph.specs.Goals.{Goal, Judgement, passed, refused, broken-line}
 use Rattle.checker.specs.Answers.{answerTo}
 use Rattle.unifier.specs.Views.{stateOf, Valid}
 use Rattle.unifier.specs.Replies.{judged}
@@ -19,7 +19,7 @@ use Rattle.unifier.specs.declared.Workspace.{Workspace}
 use Rattle.unifier.specs.declared.Checked.{Checked}
 use Rattle.unifier.specs.declared.CheckReply.{CheckReply}
 use Rattle.unifier.specs.declared.CheckReply.the-variants as check
-use Rattle.shorter.specs.Choice.{Choice, first, second, choice, orElse, lineCount, fewerLines, shorterReply, partOf, shorterOf}
+use Rattle.shorter.specs.Choice.{Choice, first, second, refusal, refusal-in, choice, inList, orElse, lineCount, fewerLines, shorterReply, partOf, shorterOf}
 use Rattle.shorter.specs.Contracts.{ChoosesLater, Chooses, Hands}
 use Rattle.shorter.specs.Best.{Best, Picked, Shorter}
 use Rattle.shorter.specs.declared.ShorterReply.{ShorterReply}
@@ -50,7 +50,7 @@ module _ (w : Workspace) (o : Option Equation) (g : Goal) (a b : List ℕ) where
   unfolding shorterReply
   passes-first x C e L =
       record {
-        refuses = λ n. let q : passed ≡ refused 1 0 = ap judged (sym e) ∙ C .refuses n in absurd (let z : _≡_ {A = ℕ} 0 1 = cc in omega arith);
+        refuses = λ n. let q : passed ≡ refused 1 = ap judged (sym e) ∙ C .refuses n in absurd (let z : _≡_ {A = ℕ} 0 1 = cc in omega arith);
         replies = λ v. let q : passed ≡ checkReply (stateOf w) o g a = ap judged (sym e) ∙ C .replies v in rw (← q) (L .replies v);
       }
 
@@ -69,7 +69,7 @@ module _ (s : State) (o : Option Equation) (g : Goal) where
   unfolding checkReply answerTo
   passes-some r p e = go (offerBelow (length (s .nodes)) o && goalBelow (length (s .nodes)) g) (offerNew s o) (rw e at p)
     where
-      go : (b c : Bool) → cond b (cond c (refused 11 0) (refused 6 0)) (refused 4 0) ≡ passed → ⊥
+      go : (b c : Bool) → cond b (cond c (refused 11) (refused 6)) (refused 4) ≡ passed → ⊥
       go true true q = let z : _≡_ {A = ℕ} 0 1 = cc in omega arith
       go true false q = let z : _≡_ {A = ℕ} 0 1 = cc in omega arith
       go false c q = let z : _≡_ {A = ℕ} 0 1 = cc in omega arith
@@ -87,14 +87,24 @@ module _ (s : State) (o : Option Equation) (g : Goal) where
             let h : lineCount a ≤ lineCount b = ltb-false _ _ e in
             record { passes = p; one-of = inl refl; first = omega arith; second = h; some = passes-some a p }
 
+    -- a refused list hands back nothing, whatever its number
+    empty-in : (k l : ℕ) → (partOf (inList k l) a b ≡ [] → ⊥) → ⊥
+    empty-in k l n = go (ltb k 11) n
+      where
+        go : (t : Bool) → (partOf (cond t (refusal k) (refusal-in k l)) a b ≡ [] → ⊥) → ⊥
+        go true n = n refl
+        go false n = n refl
+
     both-pass : (shorterOf s o g a b ≡ [] → ⊥) → (checkReply s o g a ≡ passed) × (checkReply s o g b ≡ passed)
     unfolding shorterReply
     both-pass n = go (checkReply s o g a) (checkReply s o g b) n
       where
         go : (j k : Judgement) → (partOf (orElse 1 j (orElse 2 k (fewerLines a b))) a b ≡ [] → ⊥) → (j ≡ passed) × (k ≡ passed)
         go passed passed n = (refl, refl)
-        go passed (refused k i) n = absurd (n refl)
-        go (refused k i) j n = absurd (n refl)
+        go passed (refused k) n = absurd (empty-in k 2 n)
+        go passed (broken-line i) n = absurd (n refl)
+        go (refused k) j n = absurd (empty-in k 1 n)
+        go (broken-line i) j n = absurd (n refl)
 
     pub picked : Picked s o g a b
     picked = record { best = best-of; both = both-pass }

@@ -19,7 +19,7 @@ pub record ChoosesLater (w : Workspace) (o : Option Equation) (g : Goal) (a b : 
   pub replies : Valid w → choice r ≡ orElse 2 (checkReply (stateOf w) o g b) (fewerLines a b)
 
 pub record Chooses (w : Workspace) (o : Option Equation) (g : Goal) (a b : List ℕ) (r : ShorterReply) : Type 0 where
-  pub refuses : (Valid w → ⊥) → choice r ≡ refusal 1 0 0
+  pub refuses : (Valid w → ⊥) → choice r ≡ refusal 1
   pub replies : Valid w → choice r ≡ shorterReply (stateOf w) o g a b
 
 pub record Hands (w : Workspace) (o : Option Equation) (g : Goal) (a b r : List ℕ) : Type 0 where

@@ -2,7 +2,7 @@
 // struct of a lent part beside a workspace would hold a reference.
 ghost use mathlib.Core.Path.{_≡_};
 ghost use Rattle.unifier.specs.Replies.{goalOf, offerOf};
-ghost use Rattle.shorter.specs.Choice.{refusal, listAt, choice};
+ghost use Rattle.shorter.specs.Choice.{inList, choice};
 ghost use Rattle.shorter.specs.Contracts.{ChoosesLater, Chooses, Hands};
 use unifier::CheckReply;
 use unifier::Goal;
@@ -19,7 +19,7 @@ pub enum ShorterReply {
 }
 
 fn refused_in(number: u8, list: u8) -> ShorterReply
-    ensures { λ r. ⌜ choice r ≡ refusal number (listAt number list) 0 ⌝ }
+    ensures { λ r. ⌜ choice r ≡ inList number list ⌝ }
 {
     if number < 11 {
         return ShorterReply::Refused(number);

@@ -9,7 +9,7 @@ use lib.ListN.{length, take, length-append}
 use lib.Dec.{eqb, ltb, leb}
 use borrow.Author.Tests.{lt-ltb, lt-leb, le-leb, ltb-true, ltb-false}
 use Rattle.graph.specs.State.{State, Equation, nameHeld, offered}
-use Rattle.graph.specs.Goals.{Goal, clash-goal, cycle-goal, same-goal, below-goal, Judgement, passed, refused, shows, Ended, ends, breaks, empty, lastOf, ended, judgeEnd, judge}
+use Rattle.graph.specs.Goals.{Goal, clash-goal, cycle-goal, same-goal, below-goal, Judgement, passed, refused, broken-line, shows, Ended, ends, breaks, empty, lastOf, ended, judgeEnd, judge}
 use Rattle.graph.specs.Lines.{Line, Claim, Checked, all, broken, onAll, more, claimOf, checked}
 use Rattle.graph.proofs.BoolLaws.{and-left, and-right}
 use Rattle.graph.proofs.TabLaws.{tab-length}
@@ -18,7 +18,7 @@ use Rattle.lines.specs.Proof.{ProofIn}
 use Rattle.checker.specs.Answers.{badLength, judgedAs, answerTo}
 use Rattle.checker.proofs.AnswerLaws.{proof-passes}
 use Rattle.checker.specs.declared.Judged.{Judged}
-use Rattle.checker.specs.declared.Judged.the-variants.{Refused}
+use Rattle.checker.specs.declared.Judged.the-variants.{Refused, Broken}
 use Rattle.store.specs.Operations.{First}
 use Rattle.store.proofs.ViewLaws.{nodes-length}
 use Rattle.store.proofs.RemoveLaws.{held-tells}
@@ -95,14 +95,14 @@ module _ (s : State) (g : Goal) (bytes : List ℕ) where
           le-of n true true z e q = absurd (let w : _≡_ {A = ℕ} 0 1 = cc in omega arith)
           le-of n false true z e q = absurd (let w : _≡_ {A = ℕ} 0 1 = cc in omega arith)
 
-      shown : (b : Bool) → Reported (cond b passed (refused 13 0))
+      shown : (b : Bool) → Reported (cond b passed (refused 13))
       shown true = tt
-      shown false = (omega arith, λ n. refl)
+      shown false = tt
 
       ending : (e : Ended) → ((k : ℕ) → e ≡ breaks k → k < 65536) → Reported (judgeEnd (s .nodes) g e)
       ending (ends c) h = shown (shows (s .nodes) g c)
-      ending (breaks k) h = (h k refl, λ n. absurd (n refl))
-      ending empty h = (omega arith, λ n. refl)
+      ending (breaks k) h = h k refl
+      ending empty h = tt
 
       last-not : (cs : List Claim) (k : ℕ) → lastOf cs ≡ breaks k → ⊥
       last-not [] k q = let z : _≡_ {A = ℕ} 0 1 = cc in omega arith
@@ -113,8 +113,8 @@ module _ (s : State) (g : Goal) (bytes : List ℕ) where
       within (all cs) h k q = absurd (last-not cs k q)
       within (broken j) h k q = let e : j ≡ k = cc in h k (rw e refl)
 
-      go : (b : Bool) → badLength (length bytes) ≡ b → Reported (cond b (refused 11 0) (judge s g (linesOf bytes)))
-      go true e = (omega arith, λ n. refl)
+      go : (b : Bool) → badLength (length bytes) ≡ b → Reported (cond b (refused 11) (judge s g (linesOf bytes)))
+      go true e = tt
       go false e =
           ending (ended (checked s [] (linesOf bytes)))
           (within (checked s [] (linesOf bytes))
@@ -123,15 +123,14 @@ module _ (s : State) (g : Goal) (bytes : List ℕ) where
   pub reported : (j : Judgement) → j ≡ answerTo s g bytes → Reported j
   reported j e = subst Reported (sym e) answer-reported
 
-module _ (j : Judged) (k i : ℕ) (e : j ≡ Refused k i) where
-  pub broken-fits : Reported (judgedAs j) → i < 65536
-  broken-fits r = (rw e at r) .0
+pub broken-fits : (j : Judged) (i : ℕ) → j ≡ Broken i → Reported (judgedAs j) → i < 65536
+broken-fits j i e r = rw e at r
 
-  pub reply-broken : k ≡ 12 → refused 12 i ≡ judgedAs j
-  reply-broken h = rw (e, h)
+pub reply-refused : (j : Judged) (k : ℕ) → j ≡ Refused k → refused k ≡ judgedAs j
+reply-refused j k e = rw e
 
-  pub reply-refused : (k ≡ 12 → ⊥) → Reported (judgedAs j) → refused k 0 ≡ judgedAs j
-  reply-refused n r = let z : i ≡ 0 = (rw e at r) .1 n in rw (e, z)
+pub reply-broken : (j : Judged) (i : ℕ) → j ≡ Broken i → broken-line i ≡ judgedAs j
+reply-broken j i e = rw e
 
 -- the offered name is held exactly where it is found among those in use
 pub name-new : (w : Workspace) (o : Offer) (n u v k : ℕ) → o ≡ offer.Equation n u v → First (w .equations .name) (w .equations .count) n k
@@ -144,16 +143,16 @@ name-new w o n u v k e f = rw (e, held-tells (w .equations) n k f) (go (ltb k (w
 
 -- what check replies to an offer and a goal, from its tests
 module _ (w : Workspace) (o : Option Equation) (g : Goal) (bytes : List ℕ) where
-  pub check-offer : offerBelow (w .terms .count) o ≡ false → refused 4 0 ≡ checkReply (stateOf w) o g bytes
+  pub check-offer : offerBelow (w .terms .count) o ≡ false → refused 4 ≡ checkReply (stateOf w) o g bytes
   unfolding checkReply
   check-offer h = rw (nodes-length (w .terms), h)
 
-  pub check-goal : offerBelow (w .terms .count) o ≡ true → goalBelow (w .terms .count) g ≡ false → refused 4 0 ≡ checkReply (stateOf w) o g bytes
+  pub check-goal : offerBelow (w .terms .count) o ≡ true → goalBelow (w .terms .count) g ≡ false → refused 4 ≡ checkReply (stateOf w) o g bytes
   unfolding checkReply
   check-goal h k = rw (nodes-length (w .terms), h, k)
 
   pub check-name : offerBelow (w .terms .count) o ≡ true → goalBelow (w .terms .count) g ≡ true → offerNew (stateOf w) o ≡ false
-      → refused 6 0 ≡ checkReply (stateOf w) o g bytes
+      → refused 6 ≡ checkReply (stateOf w) o g bytes
   unfolding checkReply
   check-name h k n = rw (nodes-length (w .terms), h, k, n)
 

@@ -43,10 +43,10 @@ withOffer s (some e) = offered s e
 unfoldable pub checkReply : State → Option Equation → Goal → List ℕ → Judgement
 checkReply s o g bytes =
     cond (offerBelow (length (s .nodes)) o && goalBelow (length (s .nodes)) g)
-    (cond (offerNew s o) (answerTo (withOffer s o) g bytes) (refused 6 0))
-    (refused 4 0)
+    (cond (offerNew s o) (answerTo (withOffer s o) g bytes) (refused 6))
+    (refused 4)
 
 pub record Checks (w : Workspace) (o : Option Equation) (g : Goal) (bytes : List ℕ) (r : Checked) : Type 0 where
-  pub refuses : (Valid w → ⊥) → judged (r .reply) ≡ refused 1 0
+  pub refuses : (Valid w → ⊥) → judged (r .reply) ≡ refused 1
   pub replies : Valid w → judged (r .reply) ≡ checkReply (stateOf w) o g bytes
   pub workspace : r .workspace ≡ w

@@ -3,7 +3,7 @@
 --   Early      the number of the first refusal that the two lists decide, 0 where they decide none
 --   Offering   a solved workspace, and an equation that none of 5, 4, 6 and 7 refuses
 --   Comparing  a solved workspace, two known nodes and a buffer that is long enough
---   Reported   only refusal 12 has a line, and its number fits 16 bits
+--   Reported   the line of refusal 12 fits 16 bits
 --   Checking   an offer and a goal with known nodes and a new name
 -- Assumes nothing: these are definitions.
 use mathlib.Core.Path.{_≡_}
@@ -12,7 +12,7 @@ use mathlib.Core.Option.{Option, none, some}
 use Prim.Native.Nat.{ℕ, _≤_, _<_}
 use mathlib.Core.Bool.{true}
 use Rattle.graph.specs.State.{Equation}
-use Rattle.graph.specs.Goals.{Goal, Judgement, passed, refused}
+use Rattle.graph.specs.Goals.{Goal, Judgement, passed, refused, broken-line}
 use Rattle.classes.specs.Table.{Table}
 use Rattle.classes.specs.Exact.{Exact}
 use Rattle.classes.specs.Members.{Alone}
@@ -36,7 +36,8 @@ pub record Early (o : Option ℕ) (r : ℕ) : Type 0 where
 
 abbrev pub Reported : Judgement → Type 0
 Reported passed = Unit {0}
-Reported (refused k i) = (i < 65536) × ((k ≡ 12 → ⊥) → i ≡ 0)
+Reported (refused k) = Unit {0}
+Reported (broken-line i) = i < 65536
 
 pub record Checking (w : Workspace) (o : Option Equation) (g : Goal) : Type 0 where
   pub valid : Valid w

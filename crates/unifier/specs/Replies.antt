@@ -1,13 +1,13 @@
 -- The enums of the replies in document 01's terms.
 --   said      a reply as the book gives it, line counts aside: 8 is a clash, 9 a cycle
---   judged    the checker's reply: passed, or its number with, for 12, the line
+--   judged    the checker's reply: passed, a refusal's number, or the line of refusal 12
 --   goalOf    the goal, by graph's
 --   offerOf   the offered equation, if there is one
 --   outcome, compared, classified, checked   a reply beside a workspace
 -- Assumes nothing: these are definitions.
 use mathlib.Core.Option.{Option, none, some}
 use Rattle.graph.specs.State.{Equation, equationOf}
-use Rattle.graph.specs.Goals.{Judgement, passed, refused, clash-goal, cycle-goal, same-goal, below-goal}
+use Rattle.graph.specs.Goals.{Judgement, passed, refused, broken-line, clash-goal, cycle-goal, same-goal, below-goal}
 use Rattle.graph.specs.Goals as goals
 use Rattle.graph.specs.Book as book
 use Rattle.unifier.specs.declared.Reply.{Reply}
@@ -36,8 +36,8 @@ said (Cycle n) = book.refused 9
 
 abbrev pub judged : CheckReply → Judgement
 judged check.Passed = passed
-judged (check.Refused k) = refused k 0
-judged (check.Broken i) = refused 12 i
+judged (check.Refused k) = refused k
+judged (check.Broken i) = broken-line i
 
 abbrev pub goalOf : Goal → goals.Goal
 goalOf goal.Clash = clash-goal

@@ -73,13 +73,8 @@ fn reply_of(j: Judged) -> CheckReply
 {
     match j {
         Judged::Passes => CheckReply::Passed,
-        Judged::Refused(k, i) => {
-            if k == 12 {
-                CheckReply::Broken(i as u16)
-            } else {
-                CheckReply::Refused(k)
-            }
-        }
+        Judged::Refused(k) => CheckReply::Refused(k),
+        Judged::Broken(i) => CheckReply::Broken(i as u16),
     }
 }
 
