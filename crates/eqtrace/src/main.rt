@@ -1,4 +1,4 @@
 // The program `eqtrace`.
 fn main() {
-    let _end = console::run();
+    console::run();
 }

@@ -1,4 +1,4 @@
 // An empty input.
 fn main() {
-    let _end = console::run();
+    console::run();
 }

@@ -1,4 +1,4 @@
 // An input of 65,536 bytes, most of them one order.
 fn main() {
-    let _end = console::run();
+    console::run();
 }

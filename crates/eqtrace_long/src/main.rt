@@ -1,4 +1,4 @@
 // An input of 65,537 bytes.
 fn main() {
-    let _end = console::run();
+    console::run();
 }

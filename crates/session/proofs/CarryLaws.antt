@@ -1,18 +1,21 @@
 -- One order carried out, from what its parts promise. Assumes nothing.
-use mathlib.Core.Path.{_≡_, refl, ap, _∙_, subst}
+use mathlib.Core.Path.{_≡_, refl, sym, ap, _∙_, subst}
 use mathlib.Core.List.{List, []}
 use mathlib.Core.Option.{Option, none, some}
 use Prim.Native.Nat.{ℕ, _-_, _*_, _≤_, _<_}
-use mathlib.Core.Bool.{Bool, true, false}
-use lib.Dec.{ltb}
-use borrow.Author.Tests.{ltb-true, ltb-false}
+use mathlib.Core.Bool.{Bool, true, false, _&&_}
+use lib.Dec.{ltb, leb}
+use borrow.Author.Tests.{ltb-true, ltb-false, le-leb, leb-true}
 use native.Mathlib.Omega.{arith}
 use lib.ListN.{length, getD, take, List·getD-eq-default}
 use lib.Seq.{length-take-le, getD-take}
-use Rattle.graph.specs.State.{Equation, offered, functor}
+use Rattle.graph.specs.State.{State, Equation, offered, functor}
+use Rattle.graph.specs.Goals.{Goal}
+use Rattle.graph.proofs.BoolLaws.{and-left, and-right}
 use Rattle.graph.specs.Lines.{Line}
 use Rattle.graph.specs.Book as book
 use Rattle.lines.specs.Codec.{linesOf, firstLines}
+use Rattle.lines.specs.Proof.{ProofIn}
 use Rattle.lines.proofs.Decoding.{part-lines}
 use Rattle.cited.specs.Cited.{CitedRising}
 use Rattle.unifier.specs.Views.{Valid, stateOf}
@@ -151,37 +154,61 @@ module _ (w : Workspace) (e : Equation) (before after : List ℕ) where
 
 -- ---- a query
 
-module _ (w : Workspace) (ok : Valid w) (x y : ℕ) (before after : List ℕ) where
-  stands-few : (r : Comparison) → compare.Stands (stateOf w) x y before after r → comparisonLines r ≤ 8192
-  stands-few (stands.Same n) (compare.same p q) = q .few
-  stands-few (stands.Below n) (compare.below m p q) = q .few
-  stands-few (stands.Above n) (compare.above m k p q) = q .few
-  stands-few stands.Apart (compare.apart m k j q) = omega arith
+-- a reply that cites has 1 to 8,192 lines
+abbrev counted : Comparison → Bool
+counted (stands.Same n) = leb 1 n && leb n 8192
+counted (stands.Below n) = leb 1 n && leb n 8192
+counted (stands.Above n) = leb 1 n && leb n 8192
+counted stands.Apart = true
+counted (stands.Refused k) = true
 
-  replies-few : (o : Option ℕ) (r : Comparison) → compare.Replies o (stateOf w) x y before after r → comparisonLines r ≤ 8192
-  replies-few none r h = stands-few r h
-  replies-few (some k) r h = omega (arith, ap comparisonLines (h .0))
+some-lines : (n : ℕ) → leb 1 n && leb n 8192 ≡ true → 1 ≤ n
+some-lines n h = leb-true 1 n (and-left (leb 1 n) (leb n 8192) h)
+
+few-lines : (n : ℕ) → leb 1 n && leb n 8192 ≡ true → n ≤ 8192
+few-lines n h = leb-true n 8192 (and-right (leb 1 n) (leb n 8192) h)
+
+module _ (w : Workspace) (x y : ℕ) (before after : List ℕ) where
+  proof-counted : {s : State} {g : Goal} (n : ℕ) → ProofIn s g n before after → leb 1 n && leb n 8192 ≡ true
+  proof-counted n p = rw (le-leb 1 n (p .some), le-leb n 8192 (p .few))
+
+  stands-counted : (r : Comparison) → compare.Stands (stateOf w) x y before after r → counted r ≡ true
+  stands-counted (stands.Same n) (compare.same p q) = proof-counted n q
+  stands-counted (stands.Below n) (compare.below m p q) = proof-counted n q
+  stands-counted (stands.Above n) (compare.above m k p q) = proof-counted n q
+  stands-counted stands.Apart (compare.apart m k j q) = refl
+
+  replies-counted : (o : Option ℕ) (r : Comparison) → compare.Replies o (stateOf w) x y before after r → counted r ≡ true
+  replies-counted none r h = stands-counted r h
+  replies-counted (some k) r h = ap counted (h .0)
+
+  -- whether the value is a workspace need not be decided: a reply is counted or not
+  compare-counted : (o : Compared) → compare.Compares w x y before after o → counted (o .reply) ≡ true
+  compare-counted o q = go (counted (o .reply)) refl
+    where
+      go : (b : Bool) → counted (o .reply) ≡ b → b ≡ true
+      go true e = refl
+      go false e =
+          let bad : Valid w → ⊥ = λ ok. let h = replies-counted (compare.refusalOf (stateOf w) x y (length before)) (o .reply) (q .replies ok) in let z : _≡_ {A = ℕ} 0 1 = cc in omega arith in
+          sym e ∙ ap counted (q .refuses bad .0)
 
   pub compare-lines : (o : Compared) → compare.Compares w x y before after o → comparisonLines (o .reply) ≤ 8192
-  compare-lines o q = replies-few (compare.refusalOf (stateOf w) x y (length before)) (o .reply) (q .replies ok)
+  compare-lines o q = go (o .reply) (compare-counted o q)
+    where
+      go : (r : Comparison) → counted r ≡ true → comparisonLines r ≤ 8192
+      go (stands.Same n) h = few-lines n h
+      go (stands.Below n) h = few-lines n h
+      go (stands.Above n) h = few-lines n h
+      go stands.Apart h = omega arith
+      go (stands.Refused k) h = omega arith
 
-  module _ (a : Code) (old new : List ℕ) (v : Workspace) (c : Carried) where
-    stance-said : (p : Comparison) → Means (compared p) a → (t : Telling v a (comparisonLines p) after old new c) → compare.Stands (stateOf w) x y before after p → Stated after p (meant a (t .names))
-    stance-said (stands.Same n) m t (compare.same p q) = record { names = t .names; cited = t .some (q .some); answer = m .means (t .names) }
-    stance-said (stands.Below n) m t (compare.below l p q) = record { names = t .names; cited = t .some (q .some); answer = m .means (t .names) }
-    stance-said (stands.Above n) m t (compare.above l k p q) = record { names = t .names; cited = t .some (q .some); answer = m .means (t .names) }
-    stance-said stands.Apart m t (compare.apart l k j q) = m .means (t .names)
-
-    refused-said : (p : Comparison) (k : ℕ) → p ≡ stands.Refused k → Means (compared p) a → (t : Telling v a (comparisonLines p) after old new c) → Stated after p (meant a (t .names))
-    refused-said (stands.Same n) k e m t = absurd (let z : _≡_ {A = ℕ} 0 1 = cc in omega arith)
-    refused-said (stands.Below n) k e m t = absurd (let z : _≡_ {A = ℕ} 0 1 = cc in omega arith)
-    refused-said (stands.Above n) k e m t = absurd (let z : _≡_ {A = ℕ} 0 1 = cc in omega arith)
-    refused-said stands.Apart k e m t = absurd (let z : _≡_ {A = ℕ} 0 1 = cc in omega arith)
-    refused-said (stands.Refused j) k e m t = m .means (t .names) ∙ ap (refused j) (t .none refl)
-
-    stated : (o : Option ℕ) (p : Comparison) → Means (compared p) a → (t : Telling v a (comparisonLines p) after old new c) → compare.Replies o (stateOf w) x y before after p → Stated after p (meant a (t .names))
-    stated none p m t h = stance-said p m t h
-    stated (some k) p m t h = refused-said p k (h .0) m t
+  stated : (a : Code) (old new : List ℕ) (v : Workspace) (c : Carried) (p : Comparison) → Means (compared p) a → (t : Telling v a (comparisonLines p) after old new c) → counted p ≡ true
+      → Stated after p (meant a (t .names))
+  stated a old new v c (stands.Same n) m t h = record { names = t .names; cited = t .some (some-lines n h); answer = m .means (t .names) }
+  stated a old new v c (stands.Below n) m t h = record { names = t .names; cited = t .some (some-lines n h); answer = m .means (t .names) }
+  stated a old new v c (stands.Above n) m t h = record { names = t .names; cited = t .some (some-lines n h); answer = m .means (t .names) }
+  stated a old new v c stands.Apart m t h = m .means (t .names)
+  stated a old new v c (stands.Refused k) m t h = m .means (t .names) ∙ ap (refused k) (t .none refl)
 
   pub carries-query : (o : Compared) (a : Code) (old new : List ℕ) (r : Carried) → compare.Compares w x y before after o → Means (compared (o .reply)) a
       → (n : ℕ) → n ≡ comparisonLines (o .reply) → Telling (o .workspace) a n after old new r → (i : ℕ) → Carries w i (some (order.query x y)) before after old new r
@@ -189,6 +216,6 @@ module _ (w : Workspace) (ok : Valid w) (x y : ℕ) (before after : List ℕ) wh
       let u : Telling (o .workspace) a (comparisonLines (o .reply)) after old new r = rw k at t in
       record {
         answer = meant a (u .names);
-        does = record { compared = o; compares = q; said = stated a old new (o .workspace) r (compare.refusalOf (stateOf w) x y (length before)) (o .reply) m u (q .replies ok); workspace = u .workspace };
+        does = record { compared = o; compares = q; said = stated a old new (o .workspace) r (o .reply) m u (compare-counted o q); workspace = u .workspace };
         says = u .says;
       }

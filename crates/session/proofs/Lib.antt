@@ -1,8 +1,8 @@
 -- Laws of orders carried out.
-pub mod SessionLaws
 pub mod CarryLaws
+pub mod SessionLaws
 pub mod FiveLaws
 pub mod OrderLaws
-pub mod ReplayLaws
+pub mod StepLaws
 pub mod TellsLaws
 pub mod DecimalLaws

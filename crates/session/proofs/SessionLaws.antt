@@ -112,15 +112,6 @@ all ok (told.next {w} {v} {u} {i} {line} {lines} {a} {answers} before after n d 
     let r : All (t .state) (i + 1) lines answers u = subst (λ (s : State). All s (i + 1) lines answers u) (packed-lists (t .state) v (t .workspace) (t .valid)) (all (t .valid) more) in
     record { state = r .state; told = told.next (t .tells) (r .told); workspace = r .workspace; valid = r .valid }
 
--- one order more at the end, of number j
-pub tells-more : {s d e : State} {i : ℕ} {lines : List (List ℕ)} {answers : List Answer} (line : List ℕ) (a : Answer) (j : ℕ) → j ≡ i + length lines → TellsAll s i lines answers d
-    → Tells d j (orderOf line) a e → TellsAll s i (lines ++ (line ∷ [])) (answers ++ (a ∷ [])) e
-tells-more {e = e} {i = i} line a j q (told.over {s}) t =
-    let z : j ≡ i = omega arith in
-    let h : Tells s i (orderOf line) a e = subst (λ (k : ℕ). Tells s k (orderOf line) a e) z t in
-    told.next h told.over
-tells-more {i = i} line a j q (told.next {lines = lines} h r) t = told.next h (tells-more line a j (omega arith) r t)
-
 -- for every list of orders, and so for the orders of every input
 pub faithful : Orders
 faithful lines answers w run =

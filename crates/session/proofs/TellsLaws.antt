@@ -1,5 +1,6 @@
--- The book's answers to a list of orders are unique, and so are its two lists after them. Assumes nothing.
+-- The book's answers to a list of orders and to an input are unique, and so are its two lists after them. Assumes nothing.
 use mathlib.Core.Path.{_≡_, refl, sym, ap, ap₂, _∙_, subst}
+use mathlib.Core.Bool.{Bool, true, false}
 use mathlib.Core.List.{List, _∷_}
 use mathlib.Core.Option.{Option, none, some}
 use Prim.Native.Nat.{ℕ, _+_}
@@ -11,6 +12,7 @@ use Rattle.orders.specs.Grammar.{Order, orderOf}
 use Rattle.orders.specs.Grammar as order
 use Rattle.answers.specs.Text.{Answer}
 use Rattle.session.specs.Book.{spoken, Calls, Stance, is-same, lies-below, lies-above, is-apart, Compares, Tells, TellsAll, over, next}
+use Rattle.session.specs.Transcript.{tooLong, ToldBy, Told}
 
 stance-unique : {s : State} {u v : ℕ} {a b : Answer} → Stance s u v a → Stance s u v b → a ≡ b
 stance-unique (is-same p) (is-same q) = refl
@@ -55,3 +57,11 @@ tells-all-unique (next {s} {d} {i = i} {line = line} {lines = lines} {a = a} {an
     let q : TellsAll d (i + 1) lines ys e = subst (λ (x : State). TellsAll x (i + 1) lines ys e) (sym (z .1)) t in
     let y = tells-all-unique r q in
     (ap₂ (λ (x : Answer) (l : List Answer). x ∷ l) (z .0) (y .0), y .1)
+
+-- an input has one list of answers, cited names aside, and leads to one state
+pub told-unique : (input : List ℕ) (xs ys : List Answer) (d e : State) → Told input xs d → Told input ys e → (xs ≡ ys) × (d ≡ e)
+told-unique input xs ys d e = go (tooLong input)
+  where
+    go : (b : Bool) → ToldBy b input xs d → ToldBy b input ys e → (xs ≡ ys) × (d ≡ e)
+    go true p q = (p .0 ∙ sym (q .0), p .1 ∙ sym (q .1))
+    go false p q = tells-all-unique p q

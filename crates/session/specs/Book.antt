@@ -1,4 +1,4 @@
--- The book's answer to an order and to a list of orders, cited names aside, and the claim about a whole input.
+-- The book's answer to an order and to a list of orders, cited names aside, and the claim about every list of orders.
 --   forget     an answer without its names
 --   spoken     the book's reply to a call, as an answer
 --   Stance     how two nodes stand in the closure of the book's equations
@@ -6,22 +6,19 @@
 --   TellsAll   the same for a list of orders, counted from i
 --   Session    what carrying out a list of orders may give: each order's contract and nothing else
 --   Faithful   the answers are the book's, and the workspace has its two lists, with zero in unused places
---   Replayed   the same of a whole input: more than 65,536 bytes have no orders
 -- Assumes nothing: these are definitions.
 use mathlib.Core.Path.{_≡_}
-use mathlib.Core.Bool.{cond}
 use mathlib.Core.List.{List, [], _∷_, map}
 use mathlib.Core.Option.{Option, none, some}
 use Prim.Native.Nat.{ℕ, _+_}
 use lib.ListN.{length}
-use lib.Dec.{ltb}
 use Rattle.graph.specs.State.{State, emptyState, variable, functor, equationOf}
 use Rattle.graph.specs.Closure.{Same, Below}
 use Rattle.graph.specs.Book as book
 use Rattle.unifier.specs.Views.{Valid, packed, freshWorkspace}
 use Rattle.unifier.specs.Compare.{refusalOf}
 use Rattle.unifier.specs.declared.Workspace.{Workspace}
-use Rattle.orders.specs.Grammar.{Order, orderOf, ordersIn}
+use Rattle.orders.specs.Grammar.{Order, orderOf}
 use Rattle.orders.specs.Grammar as order
 use Rattle.answers.specs.Text.{Answer, node, held, gone, same, below, above, apart, refused, unreadable}
 use Rattle.session.specs.Carried.{Does}
@@ -88,13 +85,3 @@ pub record Faithful (lines : List (List ℕ)) (answers : List Answer) (w : Works
 
 abbrev pub Orders : Type 0
 Orders = (lines : List (List ℕ)) (answers : List Answer) (w : Workspace) → Session freshWorkspace 1 lines answers w → Faithful lines answers w
-
-unfoldable pub ordersOf : List ℕ → List (List ℕ)
-ordersOf input = cond (ltb 65536 (length input)) [] (ordersIn input)
-
-pub record Replayed (input : List ℕ) (w : Workspace) : Type 0 where
-  pub answers : List Answer
-  pub state : State
-  pub told : TellsAll emptyState 1 (ordersOf input) answers state
-  pub workspace : w ≡ packed state
-  pub valid : Valid w

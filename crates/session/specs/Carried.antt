@@ -5,13 +5,12 @@
 --   Stated     what is said of a comparison: same, below and above cite
 --   Does       the order's call by its own contract, and the answer; an order that can't be read changes nothing
 --   Carries    the same with the answer's text in the lent buffer
---   Steps      the same for the order at a place of the input, and where the next one begins
 -- Assumes nothing: these are definitions.
 use mathlib.Core.Path.{_≡_}
 use mathlib.Core.List.{List, []}
 use mathlib.Core.Option.{Option, none, some}
-use Prim.Native.Nat.{ℕ, _+_, _-_}
-use lib.ListN.{length, take, drop}
+use Prim.Native.Nat.{ℕ}
+use lib.ListN.{length}
 use Rattle.graph.specs.State.{variable, functor, Equation, equationOf}
 use Rattle.graph.specs.Lines.{Line}
 use Rattle.graph.specs.Book as book
@@ -27,13 +26,11 @@ use Rattle.unifier.specs.declared.Reply.{Reply}
 use Rattle.unifier.specs.declared.Reply.the-variants.{Node, Held, Gone, Refused, Clash, Cycle}
 use Rattle.unifier.specs.declared.Comparison.{Comparison}
 use Rattle.unifier.specs.declared.Comparison.the-variants as stands
-use Rattle.orders.specs.Grammar.{Order, orderOf}
+use Rattle.orders.specs.Grammar.{Order}
 use Rattle.orders.specs.Grammar as order
 use Rattle.answers.specs.Text.{Answer, node, held, gone, same, below, above, apart, refused, unreadable}
 use Rattle.answers.specs.Puts.{Says}
-use Rattle.orders.specs.Input.{EndsAt}
 use Rattle.session.specs.declared.Carried.{Carried}
-use Rattle.session.specs.declared.Stepped.{Stepped}
 
 -- x is the name that the order has
 abbrev pub plainly : ℕ → Reply → Answer
@@ -104,10 +101,3 @@ pub record Carries (w : Workspace) (i : ℕ) (o : Option Order) (before after ol
   pub answer : Answer
   pub does : Does w i o before after answer (r .workspace)
   pub says : Says answer old new (r .length)
-
--- the order at a place of the input
-pub record Steps (w : Workspace) (input : List ℕ) (at i : ℕ) (before after old new : List ℕ) (r : Stepped) : Type 0 where
-  pub end : ℕ
-  pub ends : EndsAt input at end
-  pub next : r .next ≡ end + 1
-  pub carries : Carries w i (orderOf (take (end - at) (drop at input))) before after old new (r .carried)

@@ -2,3 +2,5 @@
 pub mod Carried
 pub mod Inner
 pub mod Book
+pub mod Transcript
+pub mod Steps

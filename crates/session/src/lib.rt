@@ -1,18 +1,17 @@
-// Orders carried out on a workspace, one after the other. The caller lends a proof buffer of 65,536 bytes, room for 8,192 names, as many
-// as a proof has lines, and 49,184 bytes for an answer: a word of at most 7 letters, two numbers or one and the names, each of at most 6 bytes
-// with its space, and the line break.
+// An input's orders carried out on a workspace, one after the other: `begin`, then `step` until nothing is left. The caller lends a proof
+// buffer of 65,536 bytes, room for 8,192 names, as many as a proof has lines, and 49,184 bytes for an answer: a word of at most 7 letters, two
+// numbers or one and the names, each of at most 6 bytes with its space, and the line break.
 ghost use mathlib.Core.Path.{_≡_};
 ghost use mathlib.Core.List.{List};
 ghost use mathlib.Core.Option.{none, some};
 ghost use Prim.Native.Nat.{ℕ, _+_, _-_, _*_, _≤_, _<_};
 ghost use lib.ListN.{length, take};
-ghost use Rattle.unifier.specs.Views.{Valid};
 ghost use Rattle.orders.specs.Grammar.{orderOf};
 ghost use Rattle.orders.specs.Grammar as order;
 ghost use Rattle.orders.specs.Input.{EndsAt};
 ghost use Rattle.answers.specs.Puts.{Small};
-ghost use Rattle.session.specs.Carried.{Carries, Steps};
-ghost use Rattle.session.specs.Book.{Replayed};
+ghost use Rattle.session.specs.Carried.{Carries};
+ghost use Rattle.session.specs.Steps.{beginning, leftOf, OrderAt, TooLong, Steps};
 ghost use Rattle.session.specs.Inner.{replyLines, comparisonLines, answered, compared, Means, CitesIn, Telling, Replying, Declares};
 use answers::Answer;
 use orders::Command;
@@ -22,7 +21,7 @@ use unifier::Reply;
 use unifier::Workspace;
 
 // The workspace after an order, and how many bytes its answer has.
-pub struct Carried {
+struct Carried {
     pub workspace: Workspace,
     pub length: usize,
 }
@@ -190,7 +189,7 @@ fn carry_query(
     names: &mut [u16],
     out: &mut [u8],
 ) -> Carried
-    requires { ⌜ Valid w × (length (now proof) ≡ 65536) × (length (now names) ≡ 8192) × (49184 ≤ length (now out)) ⌝ }
+    requires { ⌜ (length (now proof) ≡ 65536) × (length (now names) ≡ 8192) × (49184 ≤ length (now out)) ⌝ }
     ensures { λ r. ⌜ ((i : ℕ) → Carries w i (some (order.query x y)) (now (proof .entry)) (now (proof .exit)) (now (out .entry)) (now (out .exit)) r) ⌝ }
 {
     let o = w.compare(x, y, proof);
@@ -202,7 +201,7 @@ fn carry_query(
 }
 
 // One order: its line, its number from 1, and the buffers of proof, names and answer.
-pub fn carry<'a>(
+fn carry<'a>(
     w: Workspace,
     line: &'a [u8],
     i: u32,
@@ -210,7 +209,7 @@ pub fn carry<'a>(
     names: &mut [u16],
     out: &mut [u8],
 ) -> Carried
-    requires { ⌜ Valid w × (i < 100000) × (length (now proof) ≡ 65536) × (length (now names) ≡ 8192) × (49184 ≤ length (now out)) ⌝ }
+    requires { ⌜ (i < 100000) × (length (now proof) ≡ 65536) × (length (now names) ≡ 8192) × (49184 ≤ length (now out)) ⌝ }
     ensures { λ r. ⌜ Carries w i (orderOf (now (line .entry))) (now (proof .entry)) (now (proof .exit)) (now (out .entry)) (now (out .exit)) r ⌝ }
 {
     let p = orders::parse(line);
@@ -226,10 +225,58 @@ pub fn carry<'a>(
     }
 }
 
-// An order of an input carried out, and where the next one begins.
+// A place in an input: the workspace after the orders before it, where the next one begins, and its number. Only `begin` and `step` make one.
+pub struct Cursor {
+    workspace: Workspace,
+    at: usize,
+    number: u32,
+}
+
+// What is left of an input at a cursor.
+enum Left {
+    Nothing,
+    TooLong,
+    Order,
+}
+
+// The cursor behind a step, and how many bytes of the lent buffer the step's text has: 0 where nothing was left.
 pub struct Stepped {
-    pub carried: Carried,
-    pub next: usize,
+    pub cursor: Cursor,
+    pub length: usize,
+}
+
+// Where every input begins.
+pub fn begin() -> Cursor
+    ensures { λ r. ⌜ r ≡ beginning ⌝ }
+{
+    let w = Workspace::fresh();
+    Cursor {
+        workspace: w,
+        at: 0,
+        number: 1,
+    }
+}
+
+pub fn workspace(c: Cursor) -> Workspace
+    ensures { λ r. ⌜ r ≡ c .workspace ⌝ }
+{
+    c.workspace
+}
+
+// An input that may be read has at most 65,536 orders, so no step comes to a higher number.
+fn left_at(input: &[u8], at: usize, i: u32) -> Left
+    ensures { λ r. ⌜ r ≡ leftOf (now (input .entry)) at i ⌝ }
+{
+    if input.len() <= at {
+        return Left::Nothing;
+    }
+    if 65536 < i {
+        return Left::Nothing;
+    }
+    if 65536 < input.len() {
+        return Left::TooLong;
+    }
+    Left::Order
 }
 
 // Where the order that begins at `at` ends: at the next line break, or where the input ends.
@@ -247,8 +294,31 @@ fn line_end(input: &[u8], at: usize) -> usize
     i
 }
 
-// The order at `at`.
-pub fn step<'a>(
+// The one answer to an input that is too long.
+fn too_long(
+    w: Workspace,
+    end: usize,
+    i: u32,
+    names: &mut [u16],
+    out: &mut [u8],
+) -> Stepped
+    requires { ⌜ (length (now names) ≡ 8192) × (49184 ≤ length (now out)) ⌝ }
+    ensures { λ r. ⌜ TooLong w end i (now (out .entry)) (now (out .exit)) r ⌝ }
+{
+    let carried = tell(w, Answer::Unreadable(0), 0, b"", names, out);
+    let v = carried.workspace;
+    Stepped {
+        cursor: Cursor {
+            workspace: v,
+            at: end,
+            number: i,
+        },
+        length: carried.length,
+    }
+}
+
+// The order at `at`, and the cursor behind it. This is the place that decides whether to go on: after every reply, refusals too.
+fn order_at<'a>(
     w: Workspace,
     input: &'a [u8],
     at: usize,
@@ -257,49 +327,44 @@ pub fn step<'a>(
     names: &mut [u16],
     out: &mut [u8],
 ) -> Stepped
-    requires { ⌜ Valid w × (at < length (now input)) × (i < 100000) × (length (now proof) ≡ 65536) × (length (now names) ≡ 8192) × (49184 ≤ length (now out)) ⌝ }
-    ensures { λ r. ⌜ Steps w (now (input .entry)) at i (now (proof .entry)) (now (proof .exit)) (now (out .entry)) (now (out .exit)) r ⌝ }
+    requires { ⌜ (at < length (now input)) × (length (now input) ≤ 65536) × (i ≤ 65536) × (length (now proof) ≡ 65536) × (length (now names) ≡ 8192) × (49184 ≤ length (now out)) ⌝ }
+    ensures { λ r. ⌜ OrderAt w (now (input .entry)) at i (now (proof .entry)) (now (proof .exit)) (now (out .entry)) (now (out .exit)) r ⌝ }
 {
     let e = line_end(input, at);
     let carried = carry(w, &input[at..e], i, proof, names, out);
+    let v = carried.workspace;
     Stepped {
-        carried: carried,
-        next: e + 1,
+        cursor: Cursor {
+            workspace: v,
+            at: e + 1,
+            number: i + 1,
+        },
+        length: carried.length,
     }
 }
 
-fn replay_from<'a>(
+// One order, from its line to its text at the start of `out`. Where nothing is left, the cursor stays and the text is empty.
+pub fn step<'a>(
+    c: Cursor,
     input: &'a [u8],
-    proof: &mut [u8],
-    names: &mut [u16],
-    out: &mut [u8],
-) -> Workspace
-    requires { ⌜ (length (now input) ≤ 65536) × (length (now proof) ≡ 65536) × (length (now names) ≡ 8192) × (49184 ≤ length (now out)) ⌝ }
-    ensures { λ r. ⌜ Replayed (now (input .entry)) r ⌝ }
+    proof: &mut [u8; 65536],
+    names: &mut [u16; 8192],
+    out: &mut [u8; 49184],
+) -> Stepped
+    ensures { λ r. ⌜ Steps c (now (input .entry)) (now (proof .entry)) (now (proof .exit)) (now (out .entry)) (now (out .exit)) r ⌝ }
 {
-    let mut w = Workspace::fresh();
-    let mut at: usize = 0;
-    let mut i: u32 = 1;
-    while at < input.len() {
-        let s = step(w, input, at, i, proof, names, out);
-        let c = s.carried;
-        let v = c.workspace;
-        w = v;
-        at = s.next;
-        i += 1;
+    let w = c.workspace;
+    let at = c.at;
+    let i = c.number;
+    let p: &mut [u8] = proof;
+    let n: &mut [u16] = names;
+    let o: &mut [u8] = out;
+    match left_at(input, at, i) {
+        Left::Nothing => Stepped {
+            cursor: c,
+            length: 0,
+        },
+        Left::TooLong => too_long(w, input.len(), i, n, o),
+        Left::Order => order_at(w, input, at, i, p, n, o),
     }
-    w
-}
-
-// Carries out every order of an input from the fresh workspace; an input that is too long has none.
-pub fn replay(input: &[u8]) -> Workspace
-    ensures { λ r. ⌜ Replayed (now (input .entry)) r ⌝ }
-{
-    if 65536 < input.len() {
-        return Workspace::fresh();
-    }
-    let mut proof = [0u8; 65536];
-    let mut names = [0u16; 8192];
-    let mut out = [0u8; 49184];
-    replay_from(input, &mut proof, &mut names, &mut out)
 }

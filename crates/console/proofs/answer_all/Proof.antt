@@ -1,60 +1,46 @@
--- `console::answer_all` meets its contract. Assumes nothing.
-use mathlib.Core.Path.{_≡_, refl}
+-- `console::answer_all` meets its contract: the steps so far are a run of the input.
 use Prim.Native.Nat.{_+_, _-_}
-use lib.ListN.{length}
-use Rattle.session.proofs.ReplayLaws.{Sofar, sofar-none, number-small, sofar-more, sofar-all, text-inside}
 use native.Mathlib.Omega.{arith}
+use lib.ListN.{length}
 use borrow.Author.Needs.{needs}
+use Rattle.session.proofs.StepLaws.{Going, going-none, going-more, finished, seen}
 use Rattle.console.proofs.answer_all.Statement.{statement}
 use Rattle.console.proofs.answer_all.Tie as tie
 
 abbrev Inv-loop : tie.InvT-loop
-Inv-loop input proof₀ names₀ out₀ w₀ at₀ i₀ proof names out w at i = Sofar input w at i × (length proof ≡ length proof₀) × (length names ≡ length names₀) × (length out ≡ length out₀)
+Inv-loop input proof₀ names₀ out₀ c₀ proof names out c = Going input c
 
 abbrev μ-loop : tie.MeasureT-loop
-μ-loop input proof₀ names₀ out₀ w₀ at₀ i₀ proof names out w at i = length input + 1 - at
-
-fresh-requires : tie.Need-fresh-requires Inv-loop μ-loop
-fresh-requires c κs = search needs
+μ-loop input proof₀ names₀ out₀ c₀ proof names out c = length input + 1 - c .at
 
 loop-holds : tie.Need-loop-holds Inv-loop μ-loop
-loop-holds c = (sofar-none _ _ _ _ (c .fresh .ensures) (omega arith) (omega arith), refl, refl, refl)
-
-step-requires : tie.Need-step-requires Inv-loop μ-loop
-step-requires c κs = let I = c .before .before .before .before .loop .inv in let p = c .before .before .before .before .before .before .before .before .before .before .pre in (I .0 .valid, search needs, number-small _ _ _ _ (I .0) (p .0), omega (arith, I .1, p .1), omega (arith, I .2, p .2), omega (arith, I .3, p .3))
-
-sub-write-all : tie.Need-sub-write-all Inv-loop μ-loop
-sub-write-all c = search needs
-
-part-write-all-start : tie.Need-part-write-all-start Inv-loop μ-loop
-part-write-all-start c = search needs
-
-part-write-all-end : tie.Need-part-write-all-end Inv-loop μ-loop
-part-write-all-end c = let s = c .before .before .before .before .before .before .before .before .before .step .ensures in let l = text-inside _ _ _ _ (s .carries .says) (search needs) in omega (arith, l)
-
-write-all-requires : tie.Need-write-all-requires Inv-loop μ-loop
-write-all-requires c κs = search needs
-
-add-i : tie.Need-add-i Inv-loop μ-loop
-add-i c = let I = c .before .before .before .before .before .before .before .before .before .before .before .before .before .before .before .before .loop .inv in omega (arith, number-small _ _ _ _ (I .0) (c .before .before .before .before .before .before .before .before .before .before .before .before .before .before .before .before .before .before .before .before .before .before .pre .0))
-
-loop-less : tie.Need-loop-less Inv-loop μ-loop
-loop-less c = let s = c .before .before .before .before .before .before .before .before .before .before .before .step .ensures in omega (arith, s .next, s .ends .end-at, s .ends .inside)
-
-loop-again : tie.Need-loop-again Inv-loop μ-loop
-loop-again c = let I = c .before .before .before .before .before .before .before .before .before .before .before .before .before .before .before .before .loop .inv in let p = c .before .before .before .before .before .before .before .before .before .before .before .before .before .before .before .before .before .before .before .before .before .before .pre in (sofar-more _ _ _ _ (I .0) _ _ _ _ _ (c .before .before .before .before .before .before .before .before .before .before .before .before .before .before .before .loop-test .taken) (omega (arith, I .1, p .1)) (c .before .before .before .before .before .before .before .before .before .before .before .step .ensures), search needs, search needs, search needs)
-
-same-length : tie.Need-same-length Inv-loop μ-loop
-same-length c = search needs
-
-same-length-2 : tie.Need-same-length-2 Inv-loop μ-loop
-same-length-2 c = search needs
-
-same-length-3 : tie.Need-same-length-3 Inv-loop μ-loop
-same-length-3 c = search needs
+loop-holds c = going-none _ _ (c .begin .ensures)
 
 returns : tie.Need-returns Inv-loop μ-loop
-returns c = let I = c .before .loop .inv in sofar-all _ _ _ _ (I .0) (c .before .before .before .before .before .before .before .pre .0) (c .loop-test .left)
+returns c =
+    let test = c .before in
+    let walked = test .before .before in
+    let loop = walked .before .before .before .before in
+    finished _ _ (loop .loop .inv) _ _ _ _ _ (walked .step .ensures) (test .if1 .taken) _ (c .workspace .ensures)
+
+part-write-all-end : tie.Need-part-write-all-end Inv-loop μ-loop
+part-write-all-end c =
+    let walked = c .before .before .before .before in
+    let steps = walked .step .ensures in
+    omega (arith, seen _ _ _ _ _ _ _ steps .room, steps .text-size)
+
+loop-less : tie.Need-loop-less Inv-loop μ-loop
+loop-less c =
+    let test = c .before .before .before .before in
+    let walked = test .before .before in
+    let on = seen _ _ _ _ _ _ _ (walked .step .ensures) .on (test .if1 .left) in
+    omega (arith, on .0, on .1)
+
+loop-again : tie.Need-loop-again Inv-loop μ-loop
+loop-again c =
+    let walked = c .before .before .before .before .before .before in
+    let loop = walked .before .before .before .before in
+    going-more _ _ (loop .loop .inv) _ _ _ _ _ (walked .step .ensures)
 
 pub answer-all-spec : {M : Type 1} → statement M
 answer-all-spec =
@@ -62,17 +48,14 @@ answer-all-spec =
     (tie.spec
     Inv-loop
     μ-loop
-    fresh-requires
+    (λ c κs. search needs)
     loop-holds
-    step-requires
-    sub-write-all
-    part-write-all-start
+    (λ c κs. search needs)
+    (λ c κs. search needs)
+    returns
+    (λ c. search needs)
+    (λ c. search needs)
     part-write-all-end
-    write-all-requires
-    add-i
+    (λ c κs. search needs)
     loop-less
-    loop-again
-    same-length
-    same-length-2
-    same-length-3
-    returns)
+    loop-again)

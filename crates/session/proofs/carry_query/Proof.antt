@@ -15,7 +15,7 @@ comparison-answer-requires : tie.Need-comparison-answer-requires
 comparison-answer-requires c κs = search needs
 
 tell-requires : tie.Need-tell-requires
-tell-requires c κs = (let l = compare-lines _ (c .before .before .before .before .before .before .before .before .before .before .before .before .before .pre .0) _ _ _ _ _ (c .before .before .before .before .before .before .before .before .compare .ensures) in (c .before .before .before .comparison-answer .ensures .small, omega (arith, l, c .before .before .before .before .comparison-lines .ensures), omega (arith, l, c .before .before .before .before .comparison-lines .ensures), search needs, search needs))
+tell-requires c κs = (let l = compare-lines _ _ _ _ _ _ (c .before .before .before .before .before .before .before .before .compare .ensures) in (c .before .before .before .comparison-answer .ensures .small, omega (arith, l, c .before .before .before .before .comparison-lines .ensures), omega (arith, l, c .before .before .before .before .comparison-lines .ensures), search needs, search needs))
 
 same-length : tie.Need-same-length
 same-length c = search needs
@@ -27,7 +27,7 @@ same-length-3 : tie.Need-same-length-3
 same-length-3 c = search needs
 
 returns : tie.Need-returns
-returns c = λ i. carries-query _ (c .before .before .before .before .before .before .before .before .before .before .before .before .before .before .before .before .before .before .pre .0) _ _ _ _ _ _ _ _ _ (c .before .before .before .before .before .before .before .before .before .before .before .before .before .compare .ensures) (c .before .before .before .before .before .before .before .before .comparison-answer .ensures) _ (c .before .before .before .before .before .before .before .before .before .comparison-lines .ensures) (c .before .before .before .before .tell .ensures) i
+returns c = λ i. carries-query _ _ _ _ _ _ _ _ _ _ (c .before .before .before .before .before .before .before .before .before .before .before .before .before .compare .ensures) (c .before .before .before .before .before .before .before .before .comparison-answer .ensures) _ (c .before .before .before .before .before .before .before .before .before .comparison-lines .ensures) (c .before .before .before .before .tell .ensures) i
 
 pub carry-query-spec : {M : Type 1} → statement M
 carry-query-spec =

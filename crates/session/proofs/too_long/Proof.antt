@@ -1,0 +1,13 @@
+-- `session::too_long` meets its contract.
+use borrow.Author.Needs.{needs}
+use Rattle.session.proofs.StepLaws.{said-too-long}
+use Rattle.session.proofs.too_long.Statement.{statement}
+use Rattle.session.proofs.too_long.Tie as tie
+
+returns : tie.Need-returns
+returns c =
+    let told = c .before .before .before .before .before in
+    said-too-long _ _ _ _ _ _ _ (told .tell .ensures)
+
+pub too-long-spec : {M : Type 1} → statement M
+too-long-spec = tie.close (tie.spec (λ c. search needs) (λ c κs. search needs) (λ c. search needs) (λ c. search needs) returns)
