@@ -1,4 +1,7 @@
--- Demand 3, proved from the calls' contracts.
+-- The three demands.
 pub mod Decides
 pub mod Demand3
 pub mod Tied
+pub mod Free
+pub mod Demand1
+pub mod Demand2

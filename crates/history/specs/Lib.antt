@@ -1,4 +1,7 @@
--- Demand 3: what is true of every list of calls.
+-- The three demands, about the functions' own contracts.
 pub mod Calls
 pub mod History
 pub mod Tied
+pub mod Free
+pub mod Demand1
+pub mod Demand2

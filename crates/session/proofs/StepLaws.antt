@@ -176,7 +176,7 @@ module _ (input output : List ℕ) (c : Cursor) (R : Reached input output c) (be
       let l : leftOf input (length input) (c .number) ≡ left.Nothing = sym (left-nothing input (length input) (c .number) (omega arith)) in
       more-answer (unreadable 0) d (s .0 .cursor) (s .0 .says) (omega (arith, b .number, ltb-true 65536 (length input) (b .long)))
       (λ answers w h. let g : RestBy left.Nothing input d answers w = subst (λ (x : Left). RestBy x input d answers w) l h in
-          subst (λ (x : Left). RestBy x input c (unreadable 0 ∷ answers) w) (sym e) (ap (λ (x : List Answer). unreadable 0 ∷ x) (g .0), g .1))
+      subst (λ (x : Left). RestBy x input c (unreadable 0 ∷ answers) w) (sym e) (ap (λ (x : List Answer). unreadable 0 ∷ x) (g .0), g .1))
 
   more-order : leftOf input (c .at) (c .number) ≡ left.Order → length before ≡ 65536 → StepsBy left.Order c input before after old new r → Reached input (output ++ take (r .length) new) (r .cursor)
   more-order e n s =
@@ -188,7 +188,7 @@ module _ (input output : List ℕ) (c : Cursor) (R : Reached input output c) (be
       let o : ordersIn (drop (c .at) input) ≡ line ∷ ordersIn (drop (s .end + 1) input) = orders-at input (c .at) (s .end) (b .inside) (s .ends) in
       more-answer (s .carries .answer) (cursorAt w′ (s .end + 1) (c .number + 1)) (s .cursor) (subst (λ (k : ℕ). Says (s .carries .answer) old new k) (sym (s .length-is)) (s .carries .says)) placed
       (λ answers w h. let g : Session w′ (c .number + 1) (ordersIn (drop (s .end + 1) input)) answers w = rest-orders w′ (s .end + 1) (c .number + 1) short placed answers w (leftOf input (s .end + 1) (c .number + 1)) refl h in
-          subst (λ (x : Left). RestBy x input c (s .carries .answer ∷ answers) w) (sym e) (rw o (told.next before after n (s .carries .does) g)))
+      subst (λ (x : Left). RestBy x input c (s .carries .answer ∷ answers) w) (sym e) (rw o (told.next before after n (s .carries .does) g)))
     where
       rest-orders : (v : Workspace) (at i : ℕ) → length input ≤ 65536 → i ≤ at + 1 → (answers : List Answer) (w : Workspace) (l : Left) → leftOf input at i ≡ l
           → RestBy l input (cursorAt v at i) answers w → Session v i (ordersIn (drop at input)) answers w

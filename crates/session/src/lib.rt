@@ -295,13 +295,7 @@ fn line_end(input: &[u8], at: usize) -> usize
 }
 
 // The one answer to an input that is too long.
-fn too_long(
-    w: Workspace,
-    end: usize,
-    i: u32,
-    names: &mut [u16],
-    out: &mut [u8],
-) -> Stepped
+fn too_long(w: Workspace, end: usize, i: u32, names: &mut [u16], out: &mut [u8]) -> Stepped
     requires { ⌜ (length (now names) ≡ 8192) × (49184 ≤ length (now out)) ⌝ }
     ensures { λ r. ⌜ TooLong w end i (now (out .entry)) (now (out .exit)) r ⌝ }
 {
