@@ -34,6 +34,11 @@ use Rattle.unifier.specs.declared.ClassReply.the-variants as class
 use Rattle.unifier.specs.declared.Checked.{Checked}
 use Rattle.unifier.specs.declared.CheckReply.{CheckReply}
 use Rattle.unifier.specs.declared.CheckReply.the-variants as check
+use Rattle.unifier.proofs.Free.{free as free-calls}
+use Rattle.proof_file.proofs.Free.{free as free-files}
+use Rattle.line_reader.proofs.Free.{free as free-reader}
+use Rattle.shorter.proofs.Free.{free as free-shorter}
+use Rattle.session.proofs.Free.{free as free-steps}
 use Rattle.proof_file.specs.File.{writeRefusal}
 use Rattle.proof_file.specs.Contracts.{Writes}
 use Rattle.proof_file.specs.Contracts as files
@@ -44,7 +49,6 @@ use Rattle.shorter.specs.Choice as chosen
 use Rattle.shorter.specs.declared.ShorterReply.{ShorterReply}
 use Rattle.shorter.specs.declared.ShorterReply.the-variants as shorter
 use Rattle.history.specs.Demand1.{Refuses, Away, Unchanged, OneReply, OneValue, Demand1}
-use Rattle.history.proofs.Free.{free, free-files, free-steps}
 
 -- ---- each reply is one value
 
@@ -187,8 +191,10 @@ one-reply w ok = record {
 
 pub demand1 : Demand1
 demand1 = record {
-  free = free;
+  free-calls = free-calls;
   free-files = free-files;
+  free-reader = free-reader;
+  free-shorter = free-shorter;
   free-steps = free-steps;
   away = away;
   unchanged = unchanged;

@@ -2,6 +2,5 @@
 pub mod Decides
 pub mod Demand3
 pub mod Tied
-pub mod Free
 pub mod Demand1
 pub mod Demand2

@@ -36,7 +36,11 @@ use Rattle.proof_file.specs.declared.WriteReply.{WriteReply}
 use Rattle.proof_file.specs.declared.WriteReply.the-variants as write
 use Rattle.shorter.specs.Choice.{Choice, choice}
 use Rattle.shorter.specs.declared.ShorterReply.{ShorterReply}
-use Rattle.history.specs.Free.{Free, FreeFiles, FreeSteps}
+use Rattle.unifier.proofs.Free as calls
+use Rattle.proof_file.proofs.Free as files
+use Rattle.line_reader.proofs.Free as reader
+use Rattle.shorter.proofs.Free as shorter
+use Rattle.session.proofs.Free as steps
 
 abbrev pub Refuses : Reply → Type 0
 Refuses (Node i) = ⊥
@@ -76,9 +80,12 @@ pub record OneValue : Type 0 where
   pub choice-back : (c : Choice) → choice (chosen-as c) ≡ c
 
 pub record Demand1 : Type 0 where
-  pub free : Free
-  pub free-files : FreeFiles
-  pub free-steps : FreeSteps
+  -- no public function has a `requires`: stated beside the functions, in each crate's proofs/Free
+  pub free-calls : calls.Free
+  pub free-files : files.Free
+  pub free-reader : reader.Free
+  pub free-shorter : shorter.Free
+  pub free-steps : steps.Free
   pub away : (w : Workspace) → (Valid w → ⊥) → Away w
   pub unchanged : (w : Workspace) → Valid w → Unchanged w
   pub file-unchanged : (lines before after : List ℕ) (r : WriteReply) (k : ℕ) → Writes lines before after r → r ≡ write.Refused k → after ≡ before

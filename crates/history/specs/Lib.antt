@@ -2,6 +2,5 @@
 pub mod Calls
 pub mod History
 pub mod Tied
-pub mod Free
 pub mod Demand1
 pub mod Demand2

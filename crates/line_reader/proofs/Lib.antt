@@ -1,2 +1,3 @@
 -- Laws of the reader.
 pub mod ReadLaws
+pub mod Free

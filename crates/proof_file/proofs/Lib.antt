@@ -1,2 +1,3 @@
 -- Laws of the proof file.
 pub mod FileLaws
+pub mod Free

@@ -1,8 +1,6 @@
--- Laws of orders carried out.
-pub mod CarryLaws
+-- Laws of an input's orders.
 pub mod SessionLaws
-pub mod FiveLaws
-pub mod OrderLaws
-pub mod StepLaws
 pub mod TellsLaws
+pub mod StepLaws
 pub mod DecimalLaws
+pub mod Free

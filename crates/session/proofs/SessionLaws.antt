@@ -21,7 +21,7 @@ use Rattle.unifier.proofs.PackedLaws.{repacked, unpacked, fresh-valid, fresh-st
 use Rattle.orders.specs.Grammar.{Order, orderOf}
 use Rattle.orders.specs.Grammar as order
 use Rattle.answers.specs.Text.{Answer}
-use Rattle.session.specs.Carried.{plainly, Spoken, Stated, Does}
+use Rattle.carry.specs.Carried.{plainly, Spoken, Stated, Does}
 use Rattle.session.specs.Book.{forget, spoken, Calls, Stance, Compares, Tells, TellsAll, Session, Orders}
 use Rattle.session.specs.Book as told
 

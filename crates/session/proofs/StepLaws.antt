@@ -2,6 +2,7 @@
 use mathlib.Core.Path.{_≡_, refl, sym, ap, _∙_, subst}
 use mathlib.Core.Bool.{Bool, true, false, cond}
 use mathlib.Core.List.{List, [], _∷_, _++_, append-assoc, append-nil, map}
+use mathlib.Core.Option.{none}
 use Prim.Native.Nat.{ℕ, _+_, _-_, _≤_, _<_}
 use native.Mathlib.Omega.{arith}
 use lib.ListN.{length, take, drop, length-append}
@@ -16,13 +17,12 @@ use Rattle.orders.specs.Grammar.{orderOf, ordersIn}
 use Rattle.orders.proofs.InputLaws.{orders-at, orders-end}
 use Rattle.answers.specs.Text.{Answer, unreadable, wordOf, textOf}
 use Rattle.answers.specs.Puts.{Puts, Says}
-use Rattle.answers.specs.declared.Answer.the-variants as says
 use Rattle.session.specs.Book.{forget, Session}
 use Rattle.session.specs.Book as told
 use Rattle.session.specs.Transcript.{textsOf, tooLong, AnswersBy, AnswersTo, ToldBy, Printed, Finished}
 use Rattle.session.specs.Steps.{cursorAt, beginning, leftOf, TooLong, StepsBy, Steps, Run, begun, stepped, Transcript}
-use Rattle.session.specs.Inner.{Telling}
-use Rattle.session.specs.declared.Carried.{Carried}
+use Rattle.carry.specs.Carried.{Carries}
+use Rattle.carry.specs.declared.Carried.{Carried}
 use Rattle.session.specs.declared.Cursor.{Cursor}
 use Rattle.session.specs.declared.Left.{Left}
 use Rattle.session.specs.declared.Left.the-variants as left
@@ -103,9 +103,12 @@ module _ (input : List ℕ) (at i : ℕ) where
 
 -- ---- the code's steps
 
-pub said-too-long : (w : Workspace) (end i : ℕ) (bytes old new : List ℕ) (t : Carried) → Telling w (says.Unreadable 0) 0 bytes old new t
+pub said-too-long : (w : Workspace) (end i : ℕ) (old new : List ℕ) (t : Carried) → Carries w 0 none [] [] old new t
     → TooLong w end i old new (record { cursor = cursorAt (t .workspace) end i; length = t .length })
-said-too-long w end i bytes old new t T = record { says = T .says; cursor = ap (λ (v : Workspace). cursorAt v end i) (T .workspace) }
+said-too-long w end i old new t C = record {
+  says = subst (λ (a : Answer). Says a old new (t .length)) (C .does .said) (C .says);
+  cursor = ap (λ (v : Workspace). cursorAt v end i) (C .does .workspace);
+}
 
 pub steps-at : (c : Cursor) (input before after old new : List ℕ) (r : Stepped) (l : Left) → l ≡ leftOf input (c .at) (c .number) → StepsBy l c input before after old new r
     → length before ≡ 65536 → length new ≡ 49184 → Steps c input before after old new r

@@ -21,7 +21,7 @@ use Rattle.unifier.specs.declared.Workspace.{Workspace}
 use Rattle.orders.specs.Grammar.{Order, orderOf}
 use Rattle.orders.specs.Grammar as order
 use Rattle.answers.specs.Text.{Answer, node, held, gone, same, below, above, apart, refused, unreadable}
-use Rattle.session.specs.Carried.{Does}
+use Rattle.carry.specs.Carried.{Does}
 
 abbrev pub forget : Answer → Answer
 forget (node i) = node i

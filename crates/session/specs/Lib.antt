@@ -1,6 +1,4 @@
--- Orders carried out.
-pub mod Carried
-pub mod Inner
+-- An input's orders carried out.
 pub mod Book
 pub mod Transcript
 pub mod Steps

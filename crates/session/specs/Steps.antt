@@ -18,9 +18,9 @@ use Rattle.orders.specs.Grammar.{orderOf}
 use Rattle.orders.specs.Input.{EndsAt}
 use Rattle.answers.specs.Text.{unreadable}
 use Rattle.answers.specs.Puts.{Says}
-use Rattle.session.specs.Carried.{Carries}
+use Rattle.carry.specs.Carried.{Carries}
 use Rattle.session.specs.Transcript.{tooLong, Printed}
-use Rattle.session.specs.declared.Carried.{Carried}
+use Rattle.carry.specs.declared.Carried.{Carried}
 use Rattle.session.specs.declared.Cursor.{Cursor}
 use Rattle.session.specs.declared.Left.{Left}
 use Rattle.session.specs.declared.Left.the-variants as left

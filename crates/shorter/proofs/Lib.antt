@@ -1,2 +1,3 @@
 -- Laws of the choice between two proofs.
 pub mod ChoiceLaws
+pub mod Free

@@ -6,3 +6,4 @@ pub mod AskLaws
 pub mod ClassLaws
 pub mod EquateLaws
 pub mod CompareLaws
+pub mod Free

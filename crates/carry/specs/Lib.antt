@@ -1,0 +1,3 @@
+-- One order carried out.
+pub mod Carried
+pub mod Inner
