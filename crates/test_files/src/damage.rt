@@ -1,8 +1,8 @@
 // A real proof's file: written, read and passed again, and then with each bit damaged in turn.
 use super::files;
+use super::proved;
 use super::reading;
 use super::tools;
-use proof_file::WriteReply;
 use unifier::CheckReply;
 use unifier::Goal;
 use unifier::Offer;
@@ -33,21 +33,17 @@ fn must_break(rule: u8, at: usize, bit: u8) -> bool {
     }
 }
 
-pub fn place_if(ok: bool, place: usize) -> usize {
-    if ok { place } else { 0 }
-}
-
 // Lines before the damaged one, k, keep their rules.
 fn judged(r: CheckReply, k: usize, must: bool) -> usize {
     match r {
         CheckReply::Broken(i) => {
             if must {
-                return place_if(i as usize == k, MUST_BREAK);
+                return tools::place_if(i as usize == k, MUST_BREAK);
             }
-            place_if(k <= i as usize, BREAKS)
+            tools::place_if(k <= i as usize, BREAKS)
         }
-        CheckReply::Refused(n) => place_if((n == 13) & !must, REFUSED_13),
-        CheckReply::Passed => place_if(!must, PASSES),
+        CheckReply::Refused(n) => tools::place_if((n == 13) & !must, REFUSED_13),
+        CheckReply::Passed => tools::place_if(!must, PASSES),
     }
 }
 
@@ -57,18 +53,18 @@ fn checked(w: Workspace, lines: &[u8], at: usize, bit: u8) -> usize {
     let must = must_break(tools::get(lines, k << 3), at % 8, bit);
     let o = w.check(Offer::Nothing, lines, Goal::Same(5, 2));
     let r = o.reply;
-    place_if(reading::stands(lines, k), judged(r, k, must))
+    tools::place_if(reading::stands(lines, k), judged(r, k, must))
 }
 
 fn place(w: Workspace, file: &[u8], at: usize, bit: u8) -> usize {
     let k = files::refusal(file);
     if at < 5 {
-        return place_if(k == 14, REFUSED_14);
+        return tools::place_if(k == 14, REFUSED_14);
     }
     if at < 7 {
-        return place_if(k == 15, REFUSED_15);
+        return tools::place_if(k == 15, REFUSED_15);
     }
-    place_if(k == 0, checked(w, proof_file::read(file), at - 7, bit))
+    tools::place_if(k == 0, checked(w, proof_file::read(file), at - 7, bit))
 }
 
 fn bits(w: Workspace, file: &mut [u8], size: usize, tally: &mut [u64]) {
@@ -84,36 +80,16 @@ fn bits(w: Workspace, file: &mut [u8], size: usize, tally: &mut [u64]) {
     }
 }
 
-// Lines written, read back and read line by line: tells the file's bytes, or 0 where something came otherwise.
-fn shown(lines: &[u8], size: usize, file: &[u8]) -> usize {
-    let part = proof_file::read(tools::part(file, 0, size));
-    let written = files::as_written(lines, size, file) & tools::equal(part, lines);
-    place_if(written & reading::all_stand(part), size)
-}
-
-pub fn filed(lines: &[u8], file: &mut [u8]) -> usize {
-    match files::write_in(lines, file, file.len()) {
-        WriteReply::Wrote(n) => shown(lines, n, file),
-        WriteReply::Refused(_) => 0,
-    }
-}
-
-fn show(w: Workspace, lines: &[u8], file: &mut [u8]) -> usize {
-    let size = filed(lines, file);
-    let again = tools::part(file, 7, size);
-    let passes = tools::check(w, Offer::Nothing, Goal::Same(5, 2), again) == 0;
-    tools::told(
-        passes & (0 < size),
-        b"the proof of 5 same 2: written, read line by line, read back, passed\n",
-        0,
-    );
-    size
-}
-
 pub fn all(w: Workspace, lines: &[u8]) {
     let mut file = [0u8; 4096];
     let mut tally = [0u64; 7];
-    let size = show(w, lines, &mut file);
+    let good = proved::good(w, Offer::Nothing, Goal::Same(5, 2), lines);
+    tools::told(
+        good,
+        b"the proof of 5 same 2: passed, written, read back, chosen\n",
+        0,
+    );
+    let size = proved::filed(lines, &mut file);
     bits(w, &mut file, size, &mut tally);
     tools::show(
         b"its file with each bit damaged, refused 14: #\nrefused 15: #\nrefused 12 at the damaged line, as must be: #\nrefused 12 there or later: #\nrefused 13: #\npassed: #\n",

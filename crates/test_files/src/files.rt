@@ -152,8 +152,10 @@ fn marks(file: &mut [u8]) {
 fn lengths(file: &mut [u8]) {
     let mut k: usize = 0;
     while k < 9 {
-        spoilt(file, COUNTS[k], 2, b'H', LENGTHS[k]);
-        spoilt(file, COUNTS[k], 2, b'X', LENGTHS[k]);
+        let count = COUNTS[k];
+        let length = LENGTHS[k];
+        spoilt(file, count, 2, b'H', length);
+        spoilt(file, count, 2, b'X', length);
         k += 1;
     }
 }

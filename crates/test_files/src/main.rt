@@ -3,6 +3,7 @@ mod choosing; // the shorter of two
 mod damage; // a file with each bit damaged in turn
 mod files; // the limits of writing and reading
 mod no_workspace; // refusal 1's small example
+mod proved; // what must hold of every proof
 mod random; // random workspaces and their proofs
 mod reading; // line by line
 mod sample; // a workspace that has a proof of every kind

@@ -1,6 +1,5 @@
 // Random workspaces: every proof that their calls give passes, is written, read back, read line by line, and chosen against a longer one.
-use super::choosing;
-use super::damage;
+use super::proved;
 use super::sample;
 use super::sample::Answer;
 use super::tools;
@@ -23,23 +22,6 @@ fn draw(tally: &mut [u64], n: u64) -> u16 {
     }
 }
 
-// One proof
-
-fn chosen(w: Workspace, offer: Offer, goal: Goal, p: &[u8]) -> bool {
-    let mut desk = [0u8; 4096];
-    choosing::lengthen(&mut desk, 0, p, 0);
-    let x = tools::part(&desk, 0, std::num::wrapping_add_usize(p.len(), 8));
-    let first = choosing::which(choosing::choose(w, offer, goal, p, x));
-    let second = choosing::which(choosing::choose(w, offer, goal, x, p));
-    (first == 1) & (second == 2)
-}
-
-fn good(w: Workspace, offer: Offer, goal: Goal, p: &[u8]) -> bool {
-    let mut file = [0u8; 4096];
-    let passes = tools::check(w, offer, goal, p) == 0;
-    passes & (0 < damage::filed(p, &mut file)) & chosen(w, offer, goal, p)
-}
-
 fn goal_of(place: usize, u: u16, v: u16) -> Goal {
     match place {
         2 => Goal::Clash,
@@ -53,8 +35,8 @@ fn goal_of(place: usize, u: u16, v: u16) -> Goal {
 // The place of the reply, or 0 where its proof isn't good.
 fn placed(w: Workspace, offer: Offer, goal: Goal, a: Answer, proof: &[u8]) -> usize {
     let k = a.place;
-    let ok = good(w, offer, goal, tools::part(proof, 0, a.bytes));
-    damage::place_if(ok | (k == 1) | (k == 7), k)
+    let ok = proved::good(w, offer, goal, tools::part(proof, 0, a.bytes));
+    tools::place_if(ok | (k == 1) | (k == 7), k)
 }
 
 // Calls

@@ -57,6 +57,11 @@ pub fn add(tally: &mut [u64], at: usize) {
     set(tally, at, std::num::wrapping_add_u64(x, 1));
 }
 
+// The place for what is as it must be.
+pub fn place_if(ok: bool, place: usize) -> usize {
+    if ok { place } else { 0 }
+}
+
 // Bytes
 
 pub fn get(s: &[u8], i: usize) -> u8 {

@@ -15,32 +15,20 @@ abbrev μ-loop : tie.MeasureT-loop
 loop-holds : tie.Need-loop-holds Inv-loop μ-loop
 loop-holds c = search needs
 
-mul-spoilt : tie.Need-mul-spoilt Inv-loop μ-loop
-mul-spoilt c = search needs
+mul-count : tie.Need-mul-count Inv-loop μ-loop
+mul-count c = search needs
 
-array-read-spoilt : tie.Need-array-read-spoilt Inv-loop μ-loop
-array-read-spoilt c = search needs
+array-read-count : tie.Need-array-read-count Inv-loop μ-loop
+array-read-count c = search needs
 
-mul-spoilt-2 : tie.Need-mul-spoilt-2 Inv-loop μ-loop
-mul-spoilt-2 c = search needs
+mul-length : tie.Need-mul-length Inv-loop μ-loop
+mul-length c = search needs
 
-array-read-spoilt-2 : tie.Need-array-read-spoilt-2 Inv-loop μ-loop
-array-read-spoilt-2 c = search needs
+array-read-length : tie.Need-array-read-length Inv-loop μ-loop
+array-read-length c = search needs
 
 spoilt-requires : tie.Need-spoilt-requires Inv-loop μ-loop
 spoilt-requires c κs = search needs
-
-mul-spoilt-3 : tie.Need-mul-spoilt-3 Inv-loop μ-loop
-mul-spoilt-3 c = search needs
-
-array-read-spoilt-3 : tie.Need-array-read-spoilt-3 Inv-loop μ-loop
-array-read-spoilt-3 c = search needs
-
-mul-spoilt-4 : tie.Need-mul-spoilt-4 Inv-loop μ-loop
-mul-spoilt-4 c = search needs
-
-array-read-spoilt-4 : tie.Need-array-read-spoilt-4 Inv-loop μ-loop
-array-read-spoilt-4 c = search needs
 
 spoilt-requires-2 : tie.Need-spoilt-requires-2 Inv-loop μ-loop
 spoilt-requires-2 c κs = search needs
@@ -67,15 +55,11 @@ lengths-spec =
     Inv-loop
     μ-loop
     loop-holds
-    mul-spoilt
-    array-read-spoilt
-    mul-spoilt-2
-    array-read-spoilt-2
+    mul-count
+    array-read-count
+    mul-length
+    array-read-length
     spoilt-requires
-    mul-spoilt-3
-    array-read-spoilt-3
-    mul-spoilt-4
-    array-read-spoilt-4
     spoilt-requires-2
     add-k
     loop-less
