@@ -1,4 +1,5 @@
 // The shorter of two: which list, its bytes, and each refusal.
+use super::proved;
 use super::sample;
 use super::tools;
 use shorter::ShorterReply;
@@ -110,8 +111,13 @@ fn pairs<'a>(w: Workspace, p: &'a [u8], desk: &'a [u8]) {
     }
 }
 
-fn lists(w: Workspace, p: &[u8]) {
+pub fn lists(w: Workspace, p: &[u8]) {
     let mut desk = [0u8; 73736];
+    tools::told(
+        true,
+        b"lists: 0 the proof of 5 same 2, 1 and 2 one line more, 3 rule 0 in line 1, 4 self, 5 9 bytes, 6 no bytes, 7 65544 bytes\n",
+        0,
+    );
     lengthen(&mut desk, 0, p, 0);
     lengthen(&mut desk, 4096, p, 1);
     tools::put(&mut desk, 8192, 3);
@@ -126,7 +132,7 @@ fn early(what: &[u8], w: Workspace, offer: Offer, goal: Goal) {
     show(choose(w, offer, goal, &none, &none));
 }
 
-fn earlies(w: Workspace) {
+pub fn earlies(w: Workspace) {
     early(
         b"no bytes, same 5 and 9",
         w,
@@ -159,33 +165,16 @@ fn earlies(w: Workspace) {
     );
 }
 
-// A refusal's own proof, which names the offered equation
-
-fn offered(w: Workspace, p: &[u8]) {
-    let mut desk = [0u8; 4096];
-    lengthen(&mut desk, 0, p, 0);
-    let x = tools::part(&desk, 0, std::num::wrapping_add_usize(p.len(), 8));
-    tools::told(
-        true,
-        b"8 = 7 offered, one line more and the proof of its clash",
-        0,
-    );
-    show(choose(w, Offer::Equation(13, 8, 7), Goal::Clash, x, p));
-}
-
+// A refusal's own proof, which names the offered equation.
 pub fn clash(w: Workspace, proof: &mut [u8]) {
     let o = w.equate(13, 8, 7, proof);
     let r = o.reply;
     let a = sample::equated_as(r);
-    offered(w, tools::part(proof, 0, a.bytes));
-}
-
-pub fn all(w: Workspace, p: &[u8]) {
+    let p = tools::part(proof, 0, a.bytes);
+    let good = proved::good(w, Offer::Equation(13, 8, 7), Goal::Clash, p);
     tools::told(
-        true,
-        b"lists: 0 the proof of 5 same 2, 1 and 2 one line more, 3 rule 0 in line 1, 4 self, 5 9 bytes, 6 no bytes, 7 65544 bytes\n",
+        good,
+        b"8 = 7 offered, the proof of its clash: passed, written, read back, chosen\n",
         0,
     );
-    lists(w, p);
-    earlies(w);
 }

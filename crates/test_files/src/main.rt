@@ -14,13 +14,16 @@ fn proofs(proof: &mut [u8]) {
     let w = sample::workspace(proof);
     let n = sample::same(w, proof);
     damage::all(w, tools::part(proof, 0, n));
-    choosing::all(w, tools::part(proof, 0, n));
+    choosing::lists(w, tools::part(proof, 0, n));
+    choosing::earlies(w);
     choosing::clash(w, proof);
 }
 
 fn main() {
     let mut proof = [165u8; 65536];
-    no_workspace::all(&mut proof);
+    let w = no_workspace::own_child();
+    no_workspace::changes(w, &mut proof);
+    no_workspace::questions(w, &mut proof);
     files::all();
     reading::all();
     proofs(&mut proof);

@@ -11,7 +11,7 @@ use unifier::Outcome;
 use unifier::Reply;
 use unifier::Workspace;
 
-fn own_child() -> Workspace {
+pub fn own_child() -> Workspace {
     let mut t = Terms::fresh();
     t.kind[0] = 1;
     t.arity[0] = 1;
@@ -58,7 +58,7 @@ fn chosen(w: Workspace, line: &[u8]) -> u64 {
     }
 }
 
-fn changes(w: Workspace, proof: &mut [u8]) {
+pub fn changes(w: Workspace, proof: &mut [u8]) {
     let none: [u16; 0] = [];
     let a = changed(w.declare_variable());
     let b = changed(w.declare_functor(1, &none));
@@ -71,7 +71,7 @@ fn changes(w: Workspace, proof: &mut [u8]) {
     );
 }
 
-fn questions(w: Workspace, proof: &mut [u8]) {
+pub fn questions(w: Workspace, proof: &mut [u8]) {
     let line: [u8; 8] = [3, 0, 0, 0, 0, 0, 0, 0];
     let check = tools::check(w, Offer::Nothing, Goal::Same(0, 0), &line);
     let n: [u64; 5] = [
@@ -86,10 +86,4 @@ fn questions(w: Workspace, proof: &mut [u8]) {
         &n,
         0,
     );
-}
-
-pub fn all(proof: &mut [u8]) {
-    let w = own_child();
-    changes(w, proof);
-    questions(w, proof);
 }
