@@ -3,11 +3,13 @@ use mathlib.Core.Path.{_≡_, refl, sym, ap, ap₂, _∙_}
 use mathlib.Core.Bool.{Bool, true, false, cond}
 use mathlib.Core.List.{List}
 use mathlib.Core.Option.{Option, none, some}
-use Prim.Native.Nat.{ℕ}
+use mathlib.Core.Logic.{_⊎_, inl, inr}
+use Prim.Native.Nat.{ℕ, _≤_}
 use native.Mathlib.Omega.{arith}
 use lib.ListN.{length}
-use lib.Dec.{eqb, ltb}
-use Rattle.graph.specs.State.{State, Equation}
+use lib.Dec.{eqb, ltb, leb}
+use borrow.Author.Tests.{ne-eqb}
+use Rattle.graph.specs.State.{State, Node as GraphNode, Equation, nameHeld, offered}
 use Rattle.graph.specs.Goals.{Judgement, passed, refused, broken-line}
 use Rattle.graph.specs.Book as book
 use Rattle.graph.proofs.BookLaws.{answer-unique}
@@ -48,7 +50,7 @@ use Rattle.shorter.specs.Choice.{Choice, choice}
 use Rattle.shorter.specs.Choice as chosen
 use Rattle.shorter.specs.declared.ShorterReply.{ShorterReply}
 use Rattle.shorter.specs.declared.ShorterReply.the-variants as shorter
-use Rattle.history.specs.Demand1.{Refuses, Away, Unchanged, OneReply, OneValue, Demand1}
+use Rattle.history.specs.Demand1.{Refuses, Away, Unchanged, uncounted, uncountedStance, OneReply, OneValue, Demand1}
 
 -- ---- each reply is one value
 
@@ -121,31 +123,28 @@ away w bad = record {
 
 -- ---- a refusal leaves all
 
--- only a refused call is answered with a refusal
-refused-number : (s : State) (c : book.Call) (k : ℕ) (r : Reply) → Refuses r → said r ≡ book.answer s c k .reply → book.answer s c k .state ≡ s
-refused-number s c k r h e = go (eqb k 0) e
-  where
-    accepts : (c : book.Call) (r : Reply) → Refuses r → said r ≡ book.accepted s c .reply → ⊥
-    accepts (book.declare n) (Refused j) h e = let z : _≡_ {A = ℕ} 0 1 = cc in omega arith
-    accepts (book.declare n) (Clash j) h e = let z : _≡_ {A = ℕ} 0 1 = cc in omega arith
-    accepts (book.declare n) (Cycle j) h e = let z : _≡_ {A = ℕ} 0 1 = cc in omega arith
-    accepts (book.equate x room) (Refused j) h e = let z : _≡_ {A = ℕ} 0 1 = cc in omega arith
-    accepts (book.equate x room) (Clash j) h e = let z : _≡_ {A = ℕ} 0 1 = cc in omega arith
-    accepts (book.equate x room) (Cycle j) h e = let z : _≡_ {A = ℕ} 0 1 = cc in omega arith
-    accepts (book.withdraw n) (Refused j) h e = let z : _≡_ {A = ℕ} 0 1 = cc in omega arith
-    accepts (book.withdraw n) (Clash j) h e = let z : _≡_ {A = ℕ} 0 1 = cc in omega arith
-    accepts (book.withdraw n) (Cycle j) h e = let z : _≡_ {A = ℕ} 0 1 = cc in omega arith
-    accepts book.clear (Refused j) h e = let z : _≡_ {A = ℕ} 0 1 = cc in omega arith
-    accepts book.clear (Clash j) h e = let z : _≡_ {A = ℕ} 0 1 = cc in omega arith
-    accepts book.clear (Cycle j) h e = let z : _≡_ {A = ℕ} 0 1 = cc in omega arith
+-- only a refused call is answered with a refusal, and that leaves the lists
+accepted-not : (s : State) (c : book.Call) (j : ℕ) → book.refused j ≡ book.accepted s c .reply → ⊥
+accepted-not s (book.declare n) j e = let z : _≡_ {A = ℕ} 0 1 = cc in omega arith
+accepted-not s (book.equate x room) j e = let z : _≡_ {A = ℕ} 0 1 = cc in omega arith
+accepted-not s (book.withdraw n) j e = let z : _≡_ {A = ℕ} 0 1 = cc in omega arith
+accepted-not s book.clear j e = let z : _≡_ {A = ℕ} 0 1 = cc in omega arith
 
-    go : (b : Bool) → said r ≡ cond b (book.accepted s c) (book.answerOf (book.refused k) s) .reply → cond b (book.accepted s c) (book.answerOf (book.refused k) s) .state ≡ s
-    go true e = absurd (accepts c r h e)
-    go false e = refl
+refused-is : (s : State) (c : book.Call) (j k : ℕ) → book.refused j ≡ book.answer s c k .reply → (k ≡ j) × (book.answer s c k .state ≡ s)
+refused-is s c j k = go (eqb k 0)
+  where
+    go : (b : Bool) → book.refused j ≡ cond b (book.accepted s c) (book.answerOf (book.refused k) s) .reply → (k ≡ j) × (cond b (book.accepted s c) (book.answerOf (book.refused k) s) .state ≡ s)
+    go true e = absurd (accepted-not s c j e)
+    go false e = (cc, refl)
+
+refused-leaves : (s : State) (c : book.Call) (k : ℕ) (r : Reply) → Refuses r → said r ≡ book.answer s c k .reply → book.answer s c k .state ≡ s
+refused-leaves s c k (Refused j) h e = refused-is s c j k e .1
+refused-leaves s c k (Clash n) h e = refused-is s c 8 k e .1
+refused-leaves s c k (Cycle n) h e = refused-is s c 9 k e .1
 
 unchanged : (w : Workspace) → Valid w → Unchanged w
 unchanged w ok = record {
-  answers = λ c r A h. let f = A .follows ok in f .workspace ∙ ap packed (refused-number (stateOf w) c (f .number) (r .reply) h (f .reply)) ∙ sym (repacked w (ok .shape));
+  answers = λ c r A h. let f = A .follows ok in f .workspace ∙ ap packed (refused-leaves (stateOf w) c (f .number) (r .reply) h (f .reply)) ∙ sym (repacked w (ok .shape));
   equates = λ e before after r k E q. (rw q at (E .written)) .0;
   compares = λ u v before after r C. C .workspace;
   compare-bytes = λ u v before after r k C q. go (refusalOf (stateOf w) u v (length before)) u v before after k (rw q at (C .replies ok));
@@ -178,13 +177,113 @@ one-class true s u (class.Class l i) (class.Refused k) p q = absurd q
 one-class true s u (class.Refused k) q p h = absurd p
 one-class false s u r q p h = p ∙ sym h
 
-one-reply : (w : Workspace) → Valid w → OneReply w
-one-reply w ok = record {
-  answers = λ c r q A B.
+-- the reply of a call that is neither a clash nor a cycle, from what it says
+plainly : book.Reply → Reply
+plainly (book.number i) = Node i
+plainly book.held = Held
+plainly book.gone = Gone
+plainly book.cleared = Held
+plainly (book.refused k) = Refused k
+
+plain-reply : (s : State) (c : book.Call) (k : ℕ) (r : Reply) → (k ≡ 8 → ⊥) → (k ≡ 9 → ⊥) → said r ≡ book.answer s c k .reply → r ≡ plainly (said r)
+unfolding plainly
+plain-reply s c k (Node i) n m e = refl
+plain-reply s c k Held n m e = refl
+plain-reply s c k Gone n m e = refl
+plain-reply s c k (Refused j) n m e = refl
+plain-reply s c k (Clash j) n m e = absurd (n (refused-is s c 8 k e .0))
+plain-reply s c k (Cycle j) n m e = absurd (m (refused-is s c 9 k e .0))
+
+-- an offered equation's, with 8 and 9 as clash and cycle
+offeredly : book.Reply → Reply
+offeredly (book.number i) = Node i
+offeredly book.held = Held
+offeredly book.gone = Gone
+offeredly book.cleared = Held
+offeredly (book.refused k) = cond (eqb k 8) (Clash 0) (cond (eqb k 9) (Cycle 0) (Refused k))
+
+offered-reply : (s : State) (before after : List ℕ) (r : Reply) → Written s before after r → uncounted r ≡ offeredly (said r)
+unfolding offeredly
+offered-reply s before after (Node i) h = refl
+offered-reply s before after Held h = refl
+offered-reply s before after Gone h = refl
+offered-reply s before after (Refused k) h = rw (ne-eqb k 8 (λ e. omega (arith, e, h .1)), ne-eqb k 9 (λ e. omega (arith, e, h .1)))
+offered-reply s before after (Clash n) h = refl
+offered-reply s before after (Cycle n) h = refl
+
+early-declared : (s : State) (n : GraphNode) (k : ℕ) → book.Refusal s (book.declare n) k → k ≤ 4
+early-declared s n k = go (leb 64 (length (s .nodes))) (ltb 4 (length (book.childrenOf n))) (book.allBelow (length (s .nodes)) (book.childrenOf n))
+  where
+    go : (x y z : Bool) → book.Else (cond x (some 2) (cond y (some 3) (cond z none (some 4)))) (book.Late s (book.declare n)) k → k ≤ 4
+    go true y z e = omega (arith, e)
+    go false true z e = omega (arith, e)
+    go false false true e = omega (arith, e)
+    go false false false e = omega (arith, e)
+
+early-withdrawn : (s : State) (n k : ℕ) → book.Refusal s (book.withdraw n) k → (k ≡ 0) ⊎ (k ≡ 10)
+early-withdrawn s n k = go (nameHeld n (s .equations))
+  where
+    go : (x : Bool) → book.Else (cond x none (some 10)) (book.Late s (book.withdraw n)) k → (k ≡ 0) ⊎ (k ≡ 10)
+    go true e = inl e
+    go false e = inr e
+
+no-fault : (k j : ℕ) → (0 ≡ j → ⊥) → (10 ≡ j → ⊥) → (k ≡ 0) ⊎ (k ≡ 10) → k ≡ j → ⊥
+no-fault k j n m (inl p) e = n (sym p ∙ e)
+no-fault k j n m (inr p) e = m (sym p ∙ e)
+
+one-stance : (s : State) (u v : ℕ) {before after left : List ℕ} (r q : Comparison) → Stands s u v before after r → Stands s u v before left q → uncountedStance r ≡ uncountedStance q
+one-stance s u v (comparison.Same n) (comparison.Same m) (stance.same p a) (stance.same q b) = refl
+one-stance s u v (comparison.Same n) (comparison.Below m) (stance.same p a) (stance.below x q b) = absurd (x p)
+one-stance s u v (comparison.Same n) (comparison.Above m) (stance.same p a) (stance.above x y q b) = absurd (x p)
+one-stance s u v (comparison.Same n) comparison.Apart (stance.same p a) (stance.apart x y z b) = absurd (x p)
+one-stance s u v (comparison.Below n) (comparison.Same m) (stance.below x p a) (stance.same q b) = absurd (x q)
+one-stance s u v (comparison.Below n) (comparison.Below m) (stance.below x p a) (stance.below y q b) = refl
+one-stance s u v (comparison.Below n) (comparison.Above m) (stance.below x p a) (stance.above y z q b) = absurd (z p)
+one-stance s u v (comparison.Below n) comparison.Apart (stance.below x p a) (stance.apart y z k b) = absurd (z p)
+one-stance s u v (comparison.Above n) (comparison.Same m) (stance.above x y p a) (stance.same q b) = absurd (x q)
+one-stance s u v (comparison.Above n) (comparison.Below m) (stance.above x y p a) (stance.below z q b) = absurd (y q)
+one-stance s u v (comparison.Above n) (comparison.Above m) (stance.above x y p a) (stance.above z k q b) = refl
+one-stance s u v (comparison.Above n) comparison.Apart (stance.above x y p a) (stance.apart z k j b) = absurd (j p)
+one-stance s u v comparison.Apart (comparison.Same m) (stance.apart x y z a) (stance.same q b) = absurd (x q)
+one-stance s u v comparison.Apart (comparison.Below m) (stance.apart x y z a) (stance.below k q b) = absurd (y q)
+one-stance s u v comparison.Apart (comparison.Above m) (stance.apart x y z a) (stance.above k j q b) = absurd (z q)
+one-stance s u v comparison.Apart comparison.Apart (stance.apart x y z a) (stance.apart k j i b) = refl
+
+one-comparison : (o : Option ℕ) (s : State) (u v : ℕ) (before after left : List ℕ) (r q : Comparison) → Replies o s u v before after r → Replies o s u v before left q → uncountedStance r ≡ uncountedStance q
+one-comparison none s u v before after left r q p h = one-stance s u v r q p h
+one-comparison (some k) s u v before after left r q p h = ap uncountedStance (p .0 ∙ sym (h .0))
+
+module _ (w : Workspace) (ok : Valid w) (c : book.Call) (r q : Outcome) (A : Answers w c r) (B : Answers w c q) where
+  one-answer : book.answer (stateOf w) c (A .follows ok .number) ≡ book.answer (stateOf w) c (B .follows ok .number)
+  one-answer = let f = A .follows ok in let g = B .follows ok in answer-unique (stateOf w) c (f .number) (g .number) (f .refusal) (g .refusal)
+
+  one-said : said (r .reply) ≡ said (q .reply)
+  one-said = A .follows ok .reply ∙ ap (λ (a : book.Answer). a .reply) one-answer ∙ sym (B .follows ok .reply)
+
+  one-workspace : r .workspace ≡ q .workspace
+  one-workspace = A .follows ok .workspace ∙ ap (λ (a : book.Answer). packed (a .state)) one-answer ∙ sym (B .follows ok .workspace)
+
+  -- a call whose refusals are neither 8 nor 9 has one outcome
+  one-outcome : ((k : ℕ) → book.Refusal (stateOf w) c k → (k ≡ 8 → ⊥) × (k ≡ 9 → ⊥)) → r ≡ q
+  one-outcome h =
       let f = A .follows ok in
       let g = B .follows ok in
-      let e = answer-unique (stateOf w) c (f .number) (g .number) (f .refusal) (g .refusal) in
-      (f .reply ∙ ap (λ (a : book.Answer). a .reply) e ∙ sym (g .reply), f .workspace ∙ ap (λ (a : book.Answer). packed (a .state)) e ∙ sym (g .workspace));
+      let a = h (f .number) (f .refusal) in
+      let b = h (g .number) (g .refusal) in
+      ap₂ outcome (plain-reply (stateOf w) c (f .number) (r .reply) (a .0) (a .1) (f .reply) ∙ ap plainly one-said ∙ sym (plain-reply (stateOf w) c (g .number) (q .reply) (b .0) (b .1) (g .reply))) one-workspace
+
+one-reply : (w : Workspace) → Valid w → OneReply w
+one-reply w ok = record {
+  declares = λ n r q A B. one-outcome w ok (book.declare n) r q A B (λ k h. let l = early-declared (stateOf w) n k h in (λ e. omega (arith, e, l), λ e. omega (arith, e, l)));
+  withdraws = λ n r q A B.
+      one-outcome w ok (book.withdraw n) r q A B
+      (λ k h. let l = early-withdrawn (stateOf w) n k h in (no-fault k 8 (λ z. omega (arith, z)) (λ z. omega (arith, z)) l, no-fault k 9 (λ z. omega (arith, z)) (λ z. omega (arith, z)) l));
+  equates = λ e before after left r q A B.
+      let c = book.equate e (length before) in (
+        offered-reply (offered (stateOf w) e) before after (r .reply) (A .written) ∙ ap offeredly (one-said w ok c r q (A .answers) (B .answers)) ∙ sym (offered-reply (offered (stateOf w) e) before left (q .reply) (B .written)),
+        one-workspace w ok c r q (A .answers) (B .answers),
+      );
+  compares = λ u v before after left r q C D. one-comparison (refusalOf (stateOf w) u v (length before)) (stateOf w) u v before after left (r .reply) (q .reply) (C .replies ok) (D .replies ok);
   classifies = λ u r q C D. ap₂ classified (one-class (ltb u (length (stateOf w .nodes))) (stateOf w) u (r .reply) (q .reply) (C .replies ok) (D .replies ok)) (C .workspace ∙ sym (D .workspace));
   checks = λ o g bytes r q C D. ap₂ checked (judged-one (r .reply) (q .reply) (C .replies ok ∙ sym (D .replies ok))) (C .workspace ∙ sym (D .workspace));
 }

@@ -3,18 +3,18 @@
 --   Refuses      a reply that refuses, 8 and 9 among them
 --   Away         a value that is no workspace: refusal 1 from every call but clear, and nothing changed
 --   Unchanged    a workspace: a refusal leaves it, and the lent bytes but for the lines of 8 and 9
---   OneReply     a call on a workspace has one reply, line counts aside, and leaves one workspace; of compare `Demand2` says so
+--   OneReply     a call on a workspace has one reply, line counts aside (`uncounted`, `uncountedStance`), and leaves one workspace
 --   OneValue     of check and of shorter-of-two each reply of document 01 is one value of the enum, and each value one reply
 -- Assumes nothing: these are definitions.
 use mathlib.Core.Path.{_≡_}
 use mathlib.Core.List.{List}
 use mathlib.Core.Option.{Option}
 use Prim.Native.Nat.{ℕ}
-use Rattle.graph.specs.State.{Equation}
+use Rattle.graph.specs.State.{Node as GraphNode, Equation}
 use Rattle.graph.specs.Goals.{Goal, Judgement}
 use Rattle.graph.specs.Book as book
 use Rattle.unifier.specs.Views.{Valid}
-use Rattle.unifier.specs.Replies.{said, judged, outcome, compared, classified, checked}
+use Rattle.unifier.specs.Replies.{judged, outcome, compared, classified, checked}
 use Rattle.unifier.specs.Answers.{Answers}
 use Rattle.unifier.specs.Equate.{Equates}
 use Rattle.unifier.specs.Compare.{Compares}
@@ -25,6 +25,7 @@ use Rattle.unifier.specs.declared.Outcome.{Outcome}
 use Rattle.unifier.specs.declared.Reply.{Reply}
 use Rattle.unifier.specs.declared.Reply.the-variants.{Node, Held, Gone, Refused, Clash, Cycle}
 use Rattle.unifier.specs.declared.Compared.{Compared}
+use Rattle.unifier.specs.declared.Comparison.{Comparison}
 use Rattle.unifier.specs.declared.Comparison.the-variants as comparison
 use Rattle.unifier.specs.declared.Classified.{Classified}
 use Rattle.unifier.specs.declared.ClassReply.the-variants as class
@@ -66,8 +67,28 @@ pub record Unchanged (w : Workspace) : Type 0 where
   pub classifies : (u : ℕ) (r : Classified) → Classifies w u r → r .workspace ≡ w
   pub checks : (o : Option Equation) (g : Goal) (bytes : List ℕ) (r : Checked) → Checks w o g bytes r → r .workspace ≡ w
 
+abbrev pub uncounted : Reply → Reply
+uncounted (Node i) = Node i
+uncounted Held = Held
+uncounted Gone = Gone
+uncounted (Refused k) = Refused k
+uncounted (Clash n) = Clash 0
+uncounted (Cycle n) = Cycle 0
+
+abbrev pub uncountedStance : Comparison → Comparison
+uncountedStance (comparison.Same n) = comparison.Same 0
+uncountedStance (comparison.Below n) = comparison.Below 0
+uncountedStance (comparison.Above n) = comparison.Above 0
+uncountedStance comparison.Apart = comparison.Apart
+uncountedStance (comparison.Refused k) = comparison.Refused k
+
 pub record OneReply (w : Workspace) : Type 0 where
-  pub answers : (c : book.Call) (r q : Outcome) → Answers w c r → Answers w c q → (said (r .reply) ≡ said (q .reply)) × (r .workspace ≡ q .workspace)
+  pub declares : (n : GraphNode) (r q : Outcome) → Answers w (book.declare n) r → Answers w (book.declare n) q → r ≡ q
+  pub withdraws : (n : ℕ) (r q : Outcome) → Answers w (book.withdraw n) r → Answers w (book.withdraw n) q → r ≡ q
+  pub equates : (e : Equation) (before after left : List ℕ) (r q : Outcome) → Equates w e before after r → Equates w e before left q
+      → (uncounted (r .reply) ≡ uncounted (q .reply)) × (r .workspace ≡ q .workspace)
+  pub compares : (u v : ℕ) (before after left : List ℕ) (r q : Compared) → Compares w u v before after r → Compares w u v before left q
+      → uncountedStance (r .reply) ≡ uncountedStance (q .reply)
   pub classifies : (u : ℕ) (r q : Classified) → Classifies w u r → Classifies w u q → r ≡ q
   pub checks : (o : Option Equation) (g : Goal) (bytes : List ℕ) (r q : Checked) → Checks w o g bytes r → Checks w o g bytes q → r ≡ q
 

@@ -28,6 +28,7 @@ use Rattle.session.specs.declared.Left.{Left}
 use Rattle.session.specs.declared.Left.the-variants as left
 use Rattle.session.specs.declared.Stepped.{Stepped}
 use Rattle.session.proofs.SessionLaws.{faithful}
+use Rattle.session.proofs.TellsLaws.{told-unique}
 
 -- ---- the text of a step
 
@@ -225,8 +226,8 @@ booked false input answers w h =
     let F = faithful (ordersIn input) answers w h in
     record { state = F .state; told = F .told; workspace = F .workspace; valid = F .valid }
 
-pub transcript : Transcript
-transcript input output c run e =
+printed : (input output : List ℕ) (c : Cursor) → Run input output c → leftOf input (c .at) (c .number) ≡ left.Nothing → Printed input output (c .workspace)
+printed input output c run e =
     let A = reached run .rest [] (c .workspace) (subst (λ (l : Left). RestBy l input c [] (c .workspace)) (sym e) (refl, refl)) in
     let B = booked (tooLong input) input (A .answers) (c .workspace) (A .given) in
     record {
@@ -307,4 +308,14 @@ module _ (input : List ℕ) (c : Cursor) (G : Going input c) (before after old n
   pub finished : r .length ≡ 0 → (w : Workspace) → w ≡ r .cursor .workspace → Finished input w
   finished z w e =
       let M = going-more in
-      record { output = M .output; printed = rw e (transcript input (M .output) (r .cursor) (M .run) (seen c input before after old new r s .over z)) }
+      record { output = M .output; printed = rw e (printed input (M .output) (r .cursor) (M .run) (seen c input before after old new r s .over z)) }
+
+-- ---- the claim
+
+one : (input output other : List ℕ) (w v : Workspace) (P : Printed input output w) (Q : Printed input other v) → (map forget (P .answers) ≡ map forget (Q .answers)) × (w ≡ v)
+one input output other w v P Q =
+    let u = told-unique input (map forget (P .answers)) (map forget (Q .answers)) (P .state) (Q .state) (P .told) (Q .told) in
+    (u .0, P .workspace ∙ ap packed (u .1) ∙ sym (Q .workspace))
+
+pub transcript : Transcript
+transcript = record { prints = printed; on = λ c input before after old new r s. seen c input before after old new r s .on; one = one }

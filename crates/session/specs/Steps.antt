@@ -4,12 +4,12 @@
 --   Steps        one step: the text at the start of the lent buffer `out`, and the cursor behind it. `before` and `after` are the proof buffer,
 --                `old` and `new` the one of the text
 --   Run          steps from the beginning of an input: the bytes that they printed, and the cursor behind them
---   Transcript   the claim about every run that leaves nothing
+--   Transcript   the claim: about every run that leaves nothing, about one step, and that the answers are unique
 -- Assumes nothing: these are definitions.
 use mathlib.Core.Path.{_≡_}
 use mathlib.Core.Bool.{cond}
-use mathlib.Core.List.{List, [], _++_}
-use Prim.Native.Nat.{ℕ, _+_, _-_}
+use mathlib.Core.List.{List, [], _++_, map}
+use Prim.Native.Nat.{ℕ, _+_, _-_, _<_}
 use lib.ListN.{length, take, drop}
 use lib.Dec.{ltb, leb}
 use Rattle.unifier.specs.Views.{freshWorkspace}
@@ -19,6 +19,7 @@ use Rattle.orders.specs.Input.{EndsAt}
 use Rattle.answers.specs.Text.{unreadable}
 use Rattle.answers.specs.Puts.{Says}
 use Rattle.carry.specs.Carried.{Carries}
+use Rattle.session.specs.Book.{forget}
 use Rattle.session.specs.Transcript.{tooLong, Printed}
 use Rattle.carry.specs.declared.Carried.{Carried}
 use Rattle.session.specs.declared.Cursor.{Cursor}
@@ -65,5 +66,10 @@ pub data Run (input : List ℕ) : List ℕ → Cursor → Type 0 where
   stepped : {output : List ℕ} {c : Cursor} (before after old new : List ℕ) (r : Stepped) → Run input output c
       → Steps c input before after old new r → Run input (output ++ take (r .length) new) (r .cursor)
 
-abbrev pub Transcript : Type 0
-Transcript = (input output : List ℕ) (c : Cursor) → Run input output c → leftOf input (c .at) (c .number) ≡ left.Nothing → Printed input output (c .workspace)
+pub record Transcript : Type 0 where
+  pub prints : (input output : List ℕ) (c : Cursor) → Run input output c → leftOf input (c .at) (c .number) ≡ left.Nothing → Printed input output (c .workspace)
+  -- a step that has a text moves on, so no run goes on for ever
+  pub on : (c : Cursor) (input before after old new : List ℕ) (r : Stepped) → Steps c input before after old new r → (r .length ≡ 0 → ⊥)
+      → (c .at < length input) × (c .at < r .cursor .at)
+  -- names aside, one list of answers, and one workspace at the end
+  pub one : (input output other : List ℕ) (w v : Workspace) (P : Printed input output w) (Q : Printed input other v) → (map forget (P .answers) ≡ map forget (Q .answers)) × (w ≡ v)
