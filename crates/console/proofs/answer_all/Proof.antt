@@ -3,7 +3,8 @@ use Prim.Native.Nat.{_+_, _-_}
 use native.Mathlib.Omega.{arith}
 use lib.ListN.{length}
 use borrow.Author.Needs.{needs}
-use Rattle.session.proofs.StepLaws.{Going, going-none, going-more, finished, seen}
+use Rattle.session.proofs.StepLaws.{seen}
+use Rattle.session.proofs.TranscriptLaws.{Going, going-none, going-more, finished}
 use Rattle.console.proofs.answer_all.Statement.{statement}
 use Rattle.console.proofs.answer_all.Tie as tie
 

@@ -1,5 +1,5 @@
 -- `session::left_at` meets its contract.
-use Rattle.session.proofs.StepLaws.{left-nothing, left-many, left-long, left-order}
+use Rattle.session.proofs.LeftLaws.{left-nothing, left-many, left-long, left-order}
 use Rattle.session.proofs.left_at.Statement.{statement}
 use Rattle.session.proofs.left_at.Tie as tie
 

@@ -4,7 +4,8 @@ use mathlib.Core.Bool.{false}
 use borrow.Author.Needs.{needs}
 use borrow.Author.Tests.{ltb-false}
 use Rattle.session.specs.declared.Left.the-variants as left
-use Rattle.session.proofs.StepLaws.{within, steps-at}
+use Rattle.session.proofs.LeftLaws.{within}
+use Rattle.session.proofs.StepLaws.{steps-at}
 use Rattle.session.proofs.step.Statement.{statement}
 use Rattle.session.proofs.step.Tie as tie
 
