@@ -32,6 +32,20 @@ use Rattle.unifier.specs.declared.Reply.{Reply}
 use Rattle.unifier.specs.declared.Reply.the-variants.{Node, Held, Gone, Refused, Clash, Cycle}
 use Rattle.history.specs.History.{Shown, ShownBy, Ready, Decided, taken, clash, cycle}
 
+-- only a refused call is answered with a refusal, and that leaves the lists
+accepted-not : (s : State) (c : book.Call) (j : ℕ) → book.refused j ≡ book.accepted s c .reply → ⊥
+accepted-not s (book.declare n) j e = let z : _≡_ {A = ℕ} 0 1 = cc in omega arith
+accepted-not s (book.equate x room) j e = let z : _≡_ {A = ℕ} 0 1 = cc in omega arith
+accepted-not s (book.withdraw n) j e = let z : _≡_ {A = ℕ} 0 1 = cc in omega arith
+accepted-not s book.clear j e = let z : _≡_ {A = ℕ} 0 1 = cc in omega arith
+
+pub refused-is : (s : State) (c : book.Call) (j k : ℕ) → book.refused j ≡ book.answer s c k .reply → (k ≡ j) × (book.answer s c k .state ≡ s)
+refused-is s c j k = go (eqb k 0)
+  where
+    go : (b : Bool) → book.refused j ≡ cond b (book.accepted s c) (book.answerOf (book.refused k) s) .reply → (k ≡ j) × (cond b (book.accepted s c) (book.answerOf (book.refused k) s) .state ≡ s)
+    go true e = absurd (accepted-not s c j e)
+    go false e = (cc, refl)
+
 -- none of 5, 4, 6 refuses it
 record Past (s : State) (e : Equation) (room : ℕ) : Type 0 where
   pub buffer : 65536 ≤ room
@@ -53,13 +67,6 @@ module _ (s : State) (e : Equation) (room : ℕ) where
       go false true false true q = absurd (omega arith)
       go false true false false q = (refl, refl, refl)
 
-  refused-by : (j k : ℕ) → book.refused j ≡ book.answer s (book.equate e room) k .reply → k ≡ j
-  refused-by j k = go (eqb k 0)
-    where
-      go : (b : Bool) → book.refused j ≡ cond b (book.accepted s (book.equate e room)) (book.answerOf (book.refused k) s) .reply → k ≡ j
-      go true h = absurd (let z : _≡_ {A = ℕ} 0 1 = cc in omega arith)
-      go false h = cc
-
 module _ (s : State) (e : Equation) (before after : List ℕ) where
   shown : (g : Goal) (n : ℕ) → goalBelow (length (s .nodes)) g ≡ true → Past s e (length before) → ProofIn (offered s e) g n before after → Shown s e g n before after
   shown g n q p i = record {
@@ -72,10 +79,10 @@ module _ (s : State) (e : Equation) (before after : List ℕ) where
   pub shown-by : (k : ℕ) (r : Reply) → book.Refusal s (book.equate e (length before)) k → said r ≡ book.answer s (book.equate e (length before)) k .reply
       → Written (offered s e) before after r → ShownBy s e before after r
   shown-by k (Clash n) f h w =
-      let q : k ≡ 8 = refused-by s e (length before) 8 k h in
+      let q : k ≡ 8 = refused-is s (book.equate e (length before)) 8 k h .0 in
       shown clash-goal n refl (late-past s e (length before) k f (omega arith)) w
   shown-by k (Cycle n) f h w =
-      let q : k ≡ 9 = refused-by s e (length before) 9 k h in
+      let q : k ≡ 9 = refused-is s (book.equate e (length before)) 9 k h .0 in
       shown cycle-goal n refl (late-past s e (length before) k f (omega arith)) w
   shown-by k (Node i) f h w = w
   shown-by k Held f h w = w

@@ -50,6 +50,7 @@ use Rattle.shorter.specs.Choice.{Choice, choice}
 use Rattle.shorter.specs.Choice as chosen
 use Rattle.shorter.specs.declared.ShorterReply.{ShorterReply}
 use Rattle.shorter.specs.declared.ShorterReply.the-variants as shorter
+use Rattle.history.proofs.Decides.{refused-is}
 use Rattle.history.specs.Demand1.{Refuses, Away, Unchanged, uncounted, uncountedStance, OneReply, OneValue, Demand1}
 
 -- ---- each reply is one value
@@ -123,20 +124,6 @@ away w bad = record {
 
 -- ---- a refusal leaves all
 
--- only a refused call is answered with a refusal, and that leaves the lists
-accepted-not : (s : State) (c : book.Call) (j : ℕ) → book.refused j ≡ book.accepted s c .reply → ⊥
-accepted-not s (book.declare n) j e = let z : _≡_ {A = ℕ} 0 1 = cc in omega arith
-accepted-not s (book.equate x room) j e = let z : _≡_ {A = ℕ} 0 1 = cc in omega arith
-accepted-not s (book.withdraw n) j e = let z : _≡_ {A = ℕ} 0 1 = cc in omega arith
-accepted-not s book.clear j e = let z : _≡_ {A = ℕ} 0 1 = cc in omega arith
-
-refused-is : (s : State) (c : book.Call) (j k : ℕ) → book.refused j ≡ book.answer s c k .reply → (k ≡ j) × (book.answer s c k .state ≡ s)
-refused-is s c j k = go (eqb k 0)
-  where
-    go : (b : Bool) → book.refused j ≡ cond b (book.accepted s c) (book.answerOf (book.refused k) s) .reply → (k ≡ j) × (cond b (book.accepted s c) (book.answerOf (book.refused k) s) .state ≡ s)
-    go true e = absurd (accepted-not s c j e)
-    go false e = (cc, refl)
-
 refused-leaves : (s : State) (c : book.Call) (k : ℕ) (r : Reply) → Refuses r → said r ≡ book.answer s c k .reply → book.answer s c k .state ≡ s
 refused-leaves s c k (Refused j) h e = refused-is s c j k e .1
 refused-leaves s c k (Clash n) h e = refused-is s c 8 k e .1
@@ -178,15 +165,15 @@ one-class true s u (class.Refused k) q p h = absurd p
 one-class false s u r q p h = p ∙ sym h
 
 -- the reply of a call that is neither a clash nor a cycle, from what it says
-plainly : book.Reply → Reply
-plainly (book.number i) = Node i
-plainly book.held = Held
-plainly book.gone = Gone
-plainly book.cleared = Held
-plainly (book.refused k) = Refused k
+call-said : book.Reply → Reply
+call-said (book.number i) = Node i
+call-said book.held = Held
+call-said book.gone = Gone
+call-said book.cleared = Held
+call-said (book.refused k) = Refused k
 
-plain-reply : (s : State) (c : book.Call) (k : ℕ) (r : Reply) → (k ≡ 8 → ⊥) → (k ≡ 9 → ⊥) → said r ≡ book.answer s c k .reply → r ≡ plainly (said r)
-unfolding plainly
+plain-reply : (s : State) (c : book.Call) (k : ℕ) (r : Reply) → (k ≡ 8 → ⊥) → (k ≡ 9 → ⊥) → said r ≡ book.answer s c k .reply → r ≡ call-said (said r)
+unfolding call-said
 plain-reply s c k (Node i) n m e = refl
 plain-reply s c k Held n m e = refl
 plain-reply s c k Gone n m e = refl
@@ -195,15 +182,15 @@ plain-reply s c k (Clash j) n m e = absurd (n (refused-is s c 8 k e .0))
 plain-reply s c k (Cycle j) n m e = absurd (m (refused-is s c 9 k e .0))
 
 -- an offered equation's, with 8 and 9 as clash and cycle
-offeredly : book.Reply → Reply
-offeredly (book.number i) = Node i
-offeredly book.held = Held
-offeredly book.gone = Gone
-offeredly book.cleared = Held
-offeredly (book.refused k) = cond (eqb k 8) (Clash 0) (cond (eqb k 9) (Cycle 0) (Refused k))
+offer-said : book.Reply → Reply
+offer-said (book.number i) = Node i
+offer-said book.held = Held
+offer-said book.gone = Gone
+offer-said book.cleared = Held
+offer-said (book.refused k) = cond (eqb k 8) (Clash 0) (cond (eqb k 9) (Cycle 0) (Refused k))
 
-offered-reply : (s : State) (before after : List ℕ) (r : Reply) → Written s before after r → uncounted r ≡ offeredly (said r)
-unfolding offeredly
+offered-reply : (s : State) (before after : List ℕ) (r : Reply) → Written s before after r → uncounted r ≡ offer-said (said r)
+unfolding offer-said
 offered-reply s before after (Node i) h = refl
 offered-reply s before after Held h = refl
 offered-reply s before after Gone h = refl
@@ -270,7 +257,7 @@ module _ (w : Workspace) (ok : Valid w) (c : book.Call) (r q : Outcome) (A : Ans
       let g = B .follows ok in
       let a = h (f .number) (f .refusal) in
       let b = h (g .number) (g .refusal) in
-      ap₂ outcome (plain-reply (stateOf w) c (f .number) (r .reply) (a .0) (a .1) (f .reply) ∙ ap plainly one-said ∙ sym (plain-reply (stateOf w) c (g .number) (q .reply) (b .0) (b .1) (g .reply))) one-workspace
+      ap₂ outcome (plain-reply (stateOf w) c (f .number) (r .reply) (a .0) (a .1) (f .reply) ∙ ap call-said one-said ∙ sym (plain-reply (stateOf w) c (g .number) (q .reply) (b .0) (b .1) (g .reply))) one-workspace
 
 one-reply : (w : Workspace) → Valid w → OneReply w
 one-reply w ok = record {
@@ -280,7 +267,7 @@ one-reply w ok = record {
       (λ k h. let l = early-withdrawn (stateOf w) n k h in (no-fault k 8 (λ z. omega (arith, z)) (λ z. omega (arith, z)) l, no-fault k 9 (λ z. omega (arith, z)) (λ z. omega (arith, z)) l));
   equates = λ e before after left r q A B.
       let c = book.equate e (length before) in (
-        offered-reply (offered (stateOf w) e) before after (r .reply) (A .written) ∙ ap offeredly (one-said w ok c r q (A .answers) (B .answers)) ∙ sym (offered-reply (offered (stateOf w) e) before left (q .reply) (B .written)),
+        offered-reply (offered (stateOf w) e) before after (r .reply) (A .written) ∙ ap offer-said (one-said w ok c r q (A .answers) (B .answers)) ∙ sym (offered-reply (offered (stateOf w) e) before left (q .reply) (B .written)),
         one-workspace w ok c r q (A .answers) (B .answers),
       );
   compares = λ u v before after left r q C D. one-comparison (refusalOf (stateOf w) u v (length before)) (stateOf w) u v before after left (r .reply) (q .reply) (C .replies ok) (D .replies ok);
