@@ -3,7 +3,7 @@
 use crate::plain::{self, Judgement, Reply, Workspace};
 use std::slice;
 
-/// A reply by numbers: see `told` in crates/ffi/specs/Numbers.antt.
+/// A reply by numbers: see `told` in crates/bench_ffi/specs/Numbers.antt.
 #[repr(C)]
 pub struct Told {
     said: u8,

@@ -1,4 +1,4 @@
-//! The proved library's parts, by the functions that crates/ffi exports. What each asks of its caller, its contract there says.
+//! The proved library's parts, by the functions that crates/bench_ffi exports. What each asks of its caller, its contract there says.
 use crate::plain::{Closure, Equations, Table, Terms, Trace, Workspace};
 
 #[repr(C)]

@@ -1,4 +1,4 @@
 // The program `eqtrace`.
 fn main() {
-    console::run();
+    eqtrace_console::run();
 }

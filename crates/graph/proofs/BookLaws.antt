@@ -1,10 +1,10 @@
--- The book's reply to a call, and to a list of calls, is one. Assumes nothing.
+-- The book's reply to a call, and to a list of calls, is one.
 use mathlib.Core.Path.{_≡_, refl}
 use mathlib.Core.List.{List}
 use mathlib.Core.Option.{Option, none, some}
 use Prim.Native.Nat.{ℕ}
 use Rattle.graph.specs.State.{State, offered}
-use Rattle.graph.specs.Book.{Call, declare, equate, withdraw, clear, Answer, early, Late, Else, Refusal, answer, Runs, over, step}
+use Rattle.graph.specs.Book.{Call, declare, equate, withdraw, clear, Transition, early, Late, Else, Refusal, answer, Runs, over, step}
 use Rattle.graph.proofs.SolutionLaws.{verdict-unique}
 
 late-unique : (s : State) (c : Call) (k m : ℕ) → Late s c k → Late s c m → k ≡ m
@@ -25,7 +25,7 @@ pub answer-unique : (s : State) (c : Call) (k m : ℕ) → Refusal s c k → Ref
 answer-unique s c k m p q = rw (refusal-unique s c k m p q)
 
 -- a list of calls has one list of answers, and leads to one state
-pub runs-unique : {s d e : State} {cs : List Call} {rs qs : List Answer} → Runs s cs rs d → Runs s cs qs e → (rs ≡ qs) × (d ≡ e)
+pub runs-unique : {s d e : State} {cs : List Call} {rs qs : List Transition} → Runs s cs rs d → Runs s cs qs e → (rs ≡ qs) × (d ≡ e)
 runs-unique over over = (refl, refl)
 runs-unique (step {s} {d} {c} k v r) (step m w q) =
     let e : m ≡ k = refusal-unique s c m k w v in

@@ -1,4 +1,4 @@
--- What a test that passed says of its parts. Assumes nothing.
+-- What a test that passed says of its parts.
 use mathlib.Core.Path.{_≡_, refl}
 use mathlib.Core.Bool.{Bool, true, false, not, _&&_, _||_}
 use Prim.Native.Nat.{ℕ}

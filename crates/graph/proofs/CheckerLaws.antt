@@ -1,4 +1,4 @@
--- Soundness of the checker's definition: what passes is true of the closure, and cites only what the state holds. Assumes nothing.
+-- Soundness of the checker's definition: what passes is true of the closure, and cites only what the state holds.
 --   claims-hold     every claim of a list that keeps its rules holds in the closure
 --   judge-sound     what a list that passes was to show is true: clash, cycle, same and below
 --   passes-cites    each name that an equation line of such a list cites is held; cites-offered: is held, or the offered one
@@ -17,7 +17,7 @@ use lib.Dec.{eqb, ltb}
 use borrow.Author.Tests.{eqb-true, ltb-true, eq-eqb}
 use Rattle.graph.specs.State.{Node, variable, functor, Equation, State, NodeAt, EqualLabels, nameHeld, offered}
 use Rattle.graph.specs.Closure.{Same, equation, reflexivity, symmetry, transitivity, down, Below, child, same-below, below-same, below-below, Clash}
-use Rattle.graph.specs.Lines.{Line, Claim, same, below, Holds, try, need, named, Functor, functorOf, functorAt, equalLabels, claimOfEquation, byEquation, byChild, byReflexivity, symmetryOf, transitivityOf, downTo, downOf, tidy, byRule, claimOf, Checked, all, broken, onAll, more, checked}
+use Rattle.graph.specs.Lines.{Line, Claim, same, below, Holds, try, need, named, Functor, functorOf, functorAt, equalLabels, claimOfEquation, byEquation, byChild, byReflexivity, symmetryOf, transitivityOf, downTo, downOf, tidy, byRule, claimOf, LineClaims, all, broken, onAll, more, lineClaims}
 use Rattle.graph.specs.Goals.{Goal, clash-goal, cycle-goal, same-goal, below-goal, Meaning, labelsDiffer, shows, Ended, ends, breaks, empty, lastOf, ended, passed, refused, judgeEnd, Passes, Cites}
 use Rattle.graph.proofs.BoolLaws.{and-left, and-right, and-both, not-true}
 
@@ -152,7 +152,7 @@ module _ (s : State) where
   -- ---- a list of lines
 
   -- every claim of a list that keeps its rules holds
-  abbrev pub IfAll : Checked → Type 0
+  abbrev pub IfAll : LineClaims → Type 0
   IfAll (all cs) = All (Holds s) cs
   IfAll (broken k) = Unit {0}
 
@@ -160,23 +160,23 @@ module _ (s : State) where
   more-ok done none w h = tt
   more-ok done (some c) w h = all-snoc (Holds s) done c w h
 
-  on-ok : (r : Checked) (f : List Claim → Checked) → IfAll r → ((cs : List Claim) → All (Holds s) cs → IfAll (f cs)) → IfAll (onAll r f)
+  on-ok : (r : LineClaims) (f : List Claim → LineClaims) → IfAll r → ((cs : List Claim) → All (Holds s) cs → IfAll (f cs)) → IfAll (onAll r f)
   on-ok (all cs) f w g = g cs w
   on-ok (broken k) f w g = tt
 
-  pub checked-ok : (done : List Claim) (ls : List Line) → All (Holds s) done → IfAll (checked s done ls)
+  pub checked-ok : (done : List Claim) (ls : List Line) → All (Holds s) done → IfAll (lineClaims s done ls)
   checked-ok done [] w = w
   checked-ok done (l ∷ ls) w =
-      on-ok (more done (claimOf s done l)) (λ next. checked s next ls) (more-ok done (claimOf s done l) w (claim-ok done l w)) (λ cs v. checked-ok cs ls v)
+      on-ok (more done (claimOf s done l)) (λ next. lineClaims s next ls) (more-ok done (claimOf s done l) w (claim-ok done l w)) (λ cs v. checked-ok cs ls v)
 
-  all-holds : (r : Checked) (cs : List Claim) → IfAll r → r ≡ all cs → All (Holds s) cs
+  all-holds : (r : LineClaims) (cs : List Claim) → IfAll r → r ≡ all cs → All (Holds s) cs
   all-holds (all ds) cs w e = let q : ds ≡ cs = cc in subst (All (Holds s)) q w
   all-holds (broken k) cs w e = absurd (let z : _≡_ {A = ℕ} 0 1 = cc in omega arith)
 
-  pub claims-hold : (ls : List Line) (cs : List Claim) → checked s [] ls ≡ all cs → All (Holds s) cs
-  claims-hold ls cs e = all-holds (checked s [] ls) cs (checked-ok [] ls tt) e
+  pub claims-hold : (ls : List Line) (cs : List Claim) → lineClaims s [] ls ≡ all cs → All (Holds s) cs
+  claims-hold ls cs e = all-holds (lineClaims s [] ls) cs (checked-ok [] ls tt) e
 
-  pub claim-at-holds : (ls : List Line) (cs : List Claim) → checked s [] ls ≡ all cs → (i : ℕ) (c : Claim) → getElem? cs i ≡ some c → Holds s c
+  pub claim-at-holds : (ls : List Line) (cs : List Claim) → lineClaims s [] ls ≡ all cs → (i : ℕ) (c : Claim) → getElem? cs i ≡ some c → Holds s c
   claim-at-holds ls cs e = all-at (Holds s) cs (claims-hold ls cs e)
 
   -- ---- what a claim shows
@@ -217,7 +217,7 @@ module _ (s : State) where
   last-ok (c ∷ []) w = w .0
   last-ok (c ∷ (d ∷ ds)) w = last-ok (d ∷ ds) (w .1)
 
-  ended-ok : (r : Checked) → IfAll r → IfEnds (ended r)
+  ended-ok : (r : LineClaims) → IfAll r → IfEnds (ended r)
   ended-ok (all cs) w = last-ok cs w
   ended-ok (broken k) w = tt
 
@@ -233,7 +233,7 @@ module _ (s : State) where
   -- what the lines that pass were to show is true
   pub judge-sound : (g : Goal) (ls : List Line) → Passes s g ls → Meaning s g
   judge-sound g ls e =
-      let q : judgeEnd (s .nodes) g (ended (checked s [] ls)) ≡ passed = cc in judge-ok g (ended (checked s [] ls)) (ended-ok (checked s [] ls) (checked-ok [] ls tt)) q
+      let q : judgeEnd (s .nodes) g (ended (lineClaims s [] ls)) ≡ passed = cc in judge-ok g (ended (lineClaims s [] ls)) (ended-ok (lineClaims s [] ls) (checked-ok [] ls tt)) q
 
 -- ---- cited names
 
@@ -266,7 +266,7 @@ module _ (s : State) where
       go false = tt
 
   -- the lines cite what is held, where all keep their rules
-  IfCited : List Line → Checked → Type 0
+  IfCited : List Line → LineClaims → Type 0
   IfCited ls (all cs) = Cites s ls
   IfCited ls (broken k) = Unit {0}
 
@@ -274,30 +274,30 @@ module _ (s : State) where
   cites-more l ls h r zero m q e = let z : l ≡ m = cc in subst (λ (x : Line). x .rule ≡ 1 → nameHeld (x .first) (s .equations) ≡ true) z h e
   cites-more l ls h r (suc i) m q e = r i m q e
 
-  cited-more : (l : Line) (ls : List Line) (r : Checked) → (l .rule ≡ 1 → nameHeld (l .first) (s .equations) ≡ true) → IfCited ls r → IfCited (l ∷ ls) r
+  cited-more : (l : Line) (ls : List Line) (r : LineClaims) → (l .rule ≡ 1 → nameHeld (l .first) (s .equations) ≡ true) → IfCited ls r → IfCited (l ∷ ls) r
   unfolding IfCited
   cited-more l ls (all cs) h r = cites-more l ls h r
   cited-more l ls (broken k) h r = tt
 
-  lines-cite : (done : List Claim) (ls : List Line) → IfCited ls (checked s done ls)
+  lines-cite : (done : List Claim) (ls : List Line) → IfCited ls (lineClaims s done ls)
   unfolding IfCited
   lines-cite done [] = λ i l h e. absurd (let z : _≡_ {A = ℕ} 0 1 = cc in omega arith)
   lines-cite done (l ∷ ls) = go (claimOf s done l) (line-cites done l) (λ next. lines-cite next ls)
     where
-      go : (o : Option Claim) → (l .rule ≡ 1 → If (nameHeld (l .first) (s .equations) ≡ true) o) → ((next : List Claim) → IfCited ls (checked s next ls))
-          → IfCited (l ∷ ls) (onAll (more done o) (λ next. checked s next ls))
+      go : (o : Option Claim) → (l .rule ≡ 1 → If (nameHeld (l .first) (s .equations) ≡ true) o) → ((next : List Claim) → IfCited ls (lineClaims s next ls))
+          → IfCited (l ∷ ls) (onAll (more done o) (λ next. lineClaims s next ls))
       go none h f = tt
-      go (some c) h f = cited-more l ls (checked s (done ++ (c ∷ [])) ls) h (f (done ++ (c ∷ [])))
+      go (some c) h f = cited-more l ls (lineClaims s (done ++ (c ∷ [])) ls) h (f (done ++ (c ∷ [])))
 
-  pub checked-cites : (ls : List Line) (cs : List Claim) → checked s [] ls ≡ all cs → Cites s ls
+  pub checked-cites : (ls : List Line) (cs : List Claim) → lineClaims s [] ls ≡ all cs → Cites s ls
   unfolding IfCited
   checked-cites ls cs e = rw e at (lines-cite [] ls)
 
   pub passes-cites : (g : Goal) (ls : List Line) → Passes s g ls → Cites s ls
   unfolding IfCited
-  passes-cites g ls h = let q : judgeEnd (s .nodes) g (ended (checked s [] ls)) ≡ passed = cc in go (checked s [] ls) q (lines-cite [] ls)
+  passes-cites g ls h = let q : judgeEnd (s .nodes) g (ended (lineClaims s [] ls)) ≡ passed = cc in go (lineClaims s [] ls) q (lines-cite [] ls)
     where
-      go : (r : Checked) → judgeEnd (s .nodes) g (ended r) ≡ passed → IfCited ls r → Cites s ls
+      go : (r : LineClaims) → judgeEnd (s .nodes) g (ended r) ≡ passed → IfCited ls r → Cites s ls
       go (all cs) q w = w
       go (broken k) q w = absurd (let z : _≡_ {A = ℕ} 0 1 = cc in omega arith)
 
@@ -322,61 +322,61 @@ cites-offered s e g ls p i l q r = held-or-offered (l .first) (s .equations) e (
 
 -- ---- one line more at the end
 
-on-on : (r : Checked) (f g : List Claim → Checked) → onAll (onAll r f) g ≡ onAll r (λ cs. onAll (f cs) g)
+on-on : (r : LineClaims) (f g : List Claim → LineClaims) → onAll (onAll r f) g ≡ onAll r (λ cs. onAll (f cs) g)
 on-on (all cs) f g = refl
 on-on (broken k) f g = refl
 
-on-unit : (r : Checked) → onAll r (λ cs. all cs) ≡ r
+on-unit : (r : LineClaims) → onAll r (λ cs. all cs) ≡ r
 on-unit (all cs) = refl
 on-unit (broken k) = refl
 
-on-same : (r : Checked) (f g : List Claim → Checked) → ((cs : List Claim) → f cs ≡ g cs) → onAll r f ≡ onAll r g
+on-same : (r : LineClaims) (f g : List Claim → LineClaims) → ((cs : List Claim) → f cs ≡ g cs) → onAll r f ≡ onAll r g
 on-same (all cs) f g e = e cs
 on-same (broken k) f g e = refl
 
 module _ (s : State) where
-  pub checked-append : (done : List Claim) (ls ms : List Line) → checked s done (ls ++ ms) ≡ onAll (checked s done ls) (λ next. checked s next ms)
+  pub checked-append : (done : List Claim) (ls ms : List Line) → lineClaims s done (ls ++ ms) ≡ onAll (lineClaims s done ls) (λ next. lineClaims s next ms)
   checked-append done [] ms = refl
   checked-append done (l ∷ ls) ms =
-      on-same (more done (claimOf s done l)) (λ n. checked s n (ls ++ ms)) (λ n. onAll (checked s n ls) (λ next. checked s next ms)) (λ n. checked-append n ls ms)
-      ∙ sym (on-on (more done (claimOf s done l)) (λ n. checked s n ls) (λ next. checked s next ms))
+      on-same (more done (claimOf s done l)) (λ n. lineClaims s n (ls ++ ms)) (λ n. onAll (lineClaims s n ls) (λ next. lineClaims s next ms)) (λ n. checked-append n ls ms)
+      ∙ sym (on-on (more done (claimOf s done l)) (λ n. lineClaims s n ls) (λ next. lineClaims s next ms))
 
-  pub checked-snoc : (done : List Claim) (ls : List Line) (l : Line) → checked s done (ls ++ (l ∷ [])) ≡ onAll (checked s done ls) (λ next. more next (claimOf s next l))
+  pub checked-snoc : (done : List Claim) (ls : List Line) (l : Line) → lineClaims s done (ls ++ (l ∷ [])) ≡ onAll (lineClaims s done ls) (λ next. more next (claimOf s next l))
   checked-snoc done ls l =
       checked-append done ls (l ∷ [])
-      ∙ on-same (checked s done ls) (λ next. checked s next (l ∷ [])) (λ next. more next (claimOf s next l)) (λ n. on-unit (more n (claimOf s n l)))
+      ∙ on-same (lineClaims s done ls) (λ next. lineClaims s next (l ∷ [])) (λ next. more next (claimOf s next l)) (λ n. on-unit (more n (claimOf s n l)))
 
   -- a line that keeps its rule adds its claim
-  pub checked-claim : (ls : List Line) (cs : List Claim) (l : Line) (c : Claim) → checked s [] ls ≡ all cs → claimOf s cs l ≡ some c
-      → checked s [] (ls ++ (l ∷ [])) ≡ all (cs ++ (c ∷ []))
+  pub checked-claim : (ls : List Line) (cs : List Claim) (l : Line) (c : Claim) → lineClaims s [] ls ≡ all cs → claimOf s cs l ≡ some c
+      → lineClaims s [] (ls ++ (l ∷ [])) ≡ all (cs ++ (c ∷ []))
   checked-claim ls cs l c e h =
       checked-snoc [] ls l
-      ∙ ap (λ (r : Checked). onAll r (λ next. more next (claimOf s next l))) e
+      ∙ ap (λ (r : LineClaims). onAll r (λ next. more next (claimOf s next l))) e
       ∙ ap (λ (o : Option Claim). more cs o) h
 
   -- the first i + 1 lines of a list, by the first i
   pub checked-one-more : (ls : List Line) (i : ℕ) (d : Line) → i < length ls
-      → checked s [] (take (i + 1) ls) ≡ onAll (checked s [] (take i ls)) (λ done. more done (claimOf s done (getD ls i d)))
+      → lineClaims s [] (take (i + 1) ls) ≡ onAll (lineClaims s [] (take i ls)) (λ done. more done (claimOf s done (getD ls i d)))
   checked-one-more ls i d k = rw (add-one, take-suc ls i d k) (checked-snoc [] (take i ls) (getD ls i d))
 
   -- a line that breaks its rule ends it
-  pub checked-stop : (ls : List Line) (i k : ℕ) → checked s [] (take i ls) ≡ broken k → checked s [] ls ≡ broken k
+  pub checked-stop : (ls : List Line) (i k : ℕ) → lineClaims s [] (take i ls) ≡ broken k → lineClaims s [] ls ≡ broken k
   checked-stop ls i k e =
-      ap (checked s []) (sym (take-append-drop i ls))
+      ap (lineClaims s []) (sym (take-append-drop i ls))
       ∙ checked-append [] (take i ls) (drop i ls)
-      ∙ ap (λ (r : Checked). onAll r (λ next. checked s next (drop i ls))) e
+      ∙ ap (λ (r : LineClaims). onAll r (λ next. lineClaims s next (drop i ls))) e
 
   -- as many claims as lines
-  claims-length : (done : List Claim) (ls : List Line) (cs : List Claim) → checked s done ls ≡ all cs → length cs ≡ length done + length ls
+  claims-length : (done : List Claim) (ls : List Line) (cs : List Claim) → lineClaims s done ls ≡ all cs → length cs ≡ length done + length ls
   claims-length done [] cs e = let q : done ≡ cs = cc in omega (arith, ap length q)
   claims-length done (l ∷ ls) cs e = go (claimOf s done l) e (λ c. claims-length (done ++ (c ∷ [])) ls cs)
     where
-      go : (o : Option Claim) → onAll (more done o) (λ next. checked s next ls) ≡ all cs
-          → ((c : Claim) → checked s (done ++ (c ∷ [])) ls ≡ all cs → length cs ≡ length (done ++ (c ∷ [])) + length ls) → length cs ≡ length done + length (l ∷ ls)
+      go : (o : Option Claim) → onAll (more done o) (λ next. lineClaims s next ls) ≡ all cs
+          → ((c : Claim) → lineClaims s (done ++ (c ∷ [])) ls ≡ all cs → length cs ≡ length (done ++ (c ∷ [])) + length ls) → length cs ≡ length done + length (l ∷ ls)
       go none q f = absurd (let z : _≡_ {A = ℕ} 0 1 = cc in omega arith)
       go (some c) q f = omega (arith, f c q, length-append done (c ∷ []))
 
-  pub checked-length : (ls : List Line) (cs : List Claim) → checked s [] ls ≡ all cs → length cs ≡ length ls
+  pub checked-length : (ls : List Line) (cs : List Claim) → lineClaims s [] ls ≡ all cs → length cs ≡ length ls
   checked-length ls cs e = omega (arith, claims-length [] ls cs e)
 
 pub last-snoc : (cs : List Claim) (c : Claim) → lastOf (cs ++ (c ∷ [])) ≡ ends c
@@ -385,5 +385,5 @@ last-snoc (x ∷ []) c = refl
 last-snoc (x ∷ (y ∷ ys)) c = last-snoc (y ∷ ys) c
 
 -- a list whose last claim shows the goal passes
-pub passes-last : (s : State) (g : Goal) (ls : List Line) (cs : List Claim) (c : Claim) → checked s [] ls ≡ all (cs ++ (c ∷ [])) → shows (s .nodes) g c ≡ true → Passes s g ls
+pub passes-last : (s : State) (g : Goal) (ls : List Line) (cs : List Claim) (c : Claim) → lineClaims s [] ls ≡ all (cs ++ (c ∷ [])) → shows (s .nodes) g c ≡ true → Passes s g ls
 passes-last s g ls cs c e h = cc (last-snoc cs c)

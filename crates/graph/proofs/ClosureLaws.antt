@@ -1,4 +1,4 @@
--- The closure is least, it grows with the state, and it joins known nodes. Assumes nothing.
+-- The closure is least, it grows with the state, and it joins known nodes.
 use mathlib.Core.List.{List, [], _∷_}
 use Prim.Native.Nat.{ℕ}
 use native.Mathlib.Omega.{arith}

@@ -1,4 +1,4 @@
--- The worked examples hold: one fact, by computation where it can be. Assumes nothing.
+-- The worked examples hold: one fact, by computation where it can be.
 use mathlib.Core.Path.{_≡_, refl, sym, _∙_, subst}
 use mathlib.Core.Logic.{⊎-elim}
 use mathlib.Core.List.{List, [], _∷_, _++_}
@@ -13,7 +13,7 @@ use Rattle.graph.specs.Verdict.{Verdict}
 use Rattle.graph.specs.Lines.{Line, tidy, byRule, claimOf}
 use Rattle.graph.specs.Goals.{clash-goal, cycle-goal, same-goal}
 use Rattle.graph.specs.Book.{over, step}
-use Rattle.graph.specs.Examples.{equation-line, child-line, turned-line, joined-line, down-line, Session, program, e11, program-calls, program-replies, Starred, types, a-b, c-g, SectionTwo, siblings, parents, congruent, Nothing, Untidy, Broken, Refusals, Examples}
+use Rattle.graph.specs.Examples.{equation-line, child-line, turned-line, joined-line, down-line, ExampleRun, program, e11, program-calls, program-replies, Starred, types, a-b, c-g, SectionTwo, siblings, parents, congruent, Nothing, Untidy, Broken, Refusals, Examples}
 use Rattle.graph.proofs.ListLaws.{found-take}
 use Rattle.graph.proofs.SolutionLaws.{Fewer, solution-fewer, proper-fewer, solution-verdict}
 use Rattle.graph.proofs.CheckerLaws.{judge-sound}
@@ -52,7 +52,7 @@ itself s P S n u k = solution-verdict (offered s e) (proper-offered s P e k k) w
       lower = S .lower;
     }
 
-program-session : Session program-calls program-replies (stateWith program (e11 ∷ []))
+program-session : ExampleRun program-calls program-replies (stateWith program (e11 ∷ []))
 unfolding tidy byRule claimOf
 program-session = record {
   answers = _;

@@ -1,4 +1,4 @@
--- Lookups in lists: what is found, and where. Assumes nothing.
+-- Lookups in lists: what is found, and where.
 use mathlib.Core.Path.{_≡_, refl}
 use mathlib.Core.List.{List, [], _∷_, _++_}
 use mathlib.Core.Option.{some}

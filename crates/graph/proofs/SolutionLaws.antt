@@ -1,4 +1,4 @@
--- What a solution rules out, what it serves, and that the verdict is one. Assumes nothing.
+-- What a solution rules out, what it serves, and that the verdict is one.
 use mathlib.Core.Path.{_≡_, refl, sym, _∙_}
 use mathlib.Core.Logic.{_↔_}
 use mathlib.Core.List.{[], _∷_}

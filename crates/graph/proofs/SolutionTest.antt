@@ -1,5 +1,5 @@
 -- Tests that compute, and what they say: that two lists of numbers are a state's classes and heights, and that a state is proper.
--- For examples: each is closed by computation. Assumes nothing.
+-- For examples: each is closed by computation.
 use mathlib.Core.Path.{_≡_, refl, ap}
 use mathlib.Core.Bool.{Bool, true, false, not, _&&_, _||_}
 use mathlib.Core.List.{List, [], _∷_}

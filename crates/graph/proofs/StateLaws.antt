@@ -1,4 +1,4 @@
--- What the book's accepted calls keep: proper states, the limits, and a solution. Assumes nothing.
+-- What the book's accepted calls keep: proper states, the limits, and a solution.
 --   nodes-full .. equations-full  what the lists refuse, by number; declare-accepted, equate-accepted: what is known past that
 --   proper-answer, proper-runs    children earlier and ends known, after every answer and every list of calls
 --   limits-answer, limits-runs    document 01's limits: 64 nodes, 4 children, 256 equations, names all different
@@ -15,7 +15,7 @@ use lib.Dec.{eqb, ltb, leb}
 use borrow.Author.Tests.{lt-ltb, le-ltb, ltb-true, ltb-false, leb-false, ne-eqb, eqb-false}
 use Rattle.graph.specs.State.{Node, functor, Equation, State, stateWith, emptyState, NodeAt, ChildAt, nameHeld, Proper, offered}
 use Rattle.graph.specs.Solution.{Classes, Solution}
-use Rattle.graph.specs.Book.{Call, declare, equate, withdraw, clear, Answer, removed, allBelow, childrenOf, early, Late, Else, Refusal, accepted, answer, Runs, over, step}
+use Rattle.graph.specs.Book.{Call, declare, equate, withdraw, clear, Transition, removed, allBelow, childrenOf, early, Late, Else, Refusal, accepted, answer, Runs, over, step}
 use Rattle.graph.proofs.ListLaws.{found-lt}
 use Rattle.graph.proofs.BoolLaws.{and-left, and-right}
 use Rattle.graph.proofs.SolutionLaws.{Fewer, solution-fewer, proper-fewer}
@@ -193,7 +193,7 @@ module _ (P : State → Type 0) (kept : (s : State) → P s → (c : Call) → R
   answer-keeps s p c zero v = kept s p c v
   answer-keeps s p c (suc k) v = rw (ne-eqb (suc k) 0 (λ e. omega arith)) p
 
-  pub runs-keep : {s d : State} {cs : List Call} {rs : List Answer} → P s → Runs s cs rs d → P d
+  pub runs-keep : {s d : State} {cs : List Call} {rs : List Transition} → P s → Runs s cs rs d → P d
   runs-keep p over = p
   runs-keep p (step {s} {d} {c} k v r) = runs-keep (answer-keeps s p c k v) r
 
@@ -238,7 +238,7 @@ proper-accepted s P clear v = proper-empty
 pub proper-answer : (s : State) → Proper s → (c : Call) (k : ℕ) → Refusal s c k → Proper (answer s c k .state)
 proper-answer = answer-keeps Proper proper-accepted
 
-pub proper-runs : {s d : State} {cs : List Call} {rs : List Answer} → Proper s → Runs s cs rs d → Proper d
+pub proper-runs : {s d : State} {cs : List Call} {rs : List Transition} → Proper s → Runs s cs rs d → Proper d
 proper-runs = runs-keep Proper proper-accepted
 
 -- ---- limits
@@ -285,7 +285,7 @@ limits-accepted s L clear v = limits-empty
 pub limits-answer : (s : State) → Limits s → (c : Call) (k : ℕ) → Refusal s c k → Limits (answer s c k .state)
 limits-answer = answer-keeps Limits limits-accepted
 
-pub limits-runs : {s d : State} {cs : List Call} {rs : List Answer} → Limits s → Runs s cs rs d → Limits d
+pub limits-runs : {s d : State} {cs : List Call} {rs : List Transition} → Limits s → Runs s cs rs d → Limits d
 limits-runs = runs-keep Limits limits-accepted
 
 -- ---- solutions

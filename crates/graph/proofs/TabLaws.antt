@@ -1,4 +1,4 @@
--- Laws of `tab`: the list of a function's first n values. Assumes nothing.
+-- Laws of `tab`: the list of a function's first n values.
 use mathlib.Core.Path.{_≡_, refl, ap, ap₂}
 use mathlib.Core.List.{List, [], _∷_, _++_}
 use mathlib.Core.Option.{none, some}

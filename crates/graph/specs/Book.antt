@@ -4,7 +4,6 @@
 --   Refusal     the number of a call's refusal, 0 where it isn't refused; 8 and 9 come from the verdict of held and offered
 --   answer      the reply, and the lists after the call
 --   Runs        the answers to a list of calls, and the state after it
--- Assumes nothing: these are definitions.
 use mathlib.Core.Path.{_≡_}
 use mathlib.Core.Bool.{Bool, true, false, _&&_, cond}
 use mathlib.Core.List.{List, [], _∷_, _++_}
@@ -22,19 +21,19 @@ pub data Call : Type 0 where
   clear : Call
 
 -- a declared node's number, held, gone, no reply beside the workspace (clear), or a refusal's number
-pub data Reply : Type 0 where
-  number : ℕ → Reply
-  held : Reply
-  gone : Reply
-  cleared : Reply
-  refused : ℕ → Reply
+pub data BookReply : Type 0 where
+  number : ℕ → BookReply
+  held : BookReply
+  gone : BookReply
+  cleared : BookReply
+  refused : ℕ → BookReply
 
-pub record Answer : Type 0 where
-  pub reply : Reply
+pub record Transition : Type 0 where
+  pub reply : BookReply
   pub state : State
 
-abbrev pub answerOf : Reply → State → Answer
-answerOf r s = record { reply = r; state = s }
+abbrev pub transition : BookReply → State → Transition
+transition r s = record { reply = r; state = s }
 
 -- strikes the equation of that name; the rest keep their order
 abbrev pub removed : ℕ → List Equation → List Equation
@@ -80,17 +79,17 @@ abbrev pub Refusal : State → Call → ℕ → Type 0
 Refusal s c k = Else (early s c) (Late s c) k
 
 -- what a call that isn't refused replies and does
-abbrev pub accepted : State → Call → Answer
-accepted s (declare n) = answerOf (number (length (s .nodes))) (stateWith (s .nodes ++ (n ∷ [])) (s .equations))
-accepted s (equate e room) = answerOf held (offered s e)
-accepted s (withdraw n) = answerOf gone (stateWith (s .nodes) (removed n (s .equations)))
-accepted s clear = answerOf cleared emptyState
+abbrev pub accepted : State → Call → Transition
+accepted s (declare n) = transition (number (length (s .nodes))) (stateWith (s .nodes ++ (n ∷ [])) (s .equations))
+accepted s (equate e room) = transition held (offered s e)
+accepted s (withdraw n) = transition gone (stateWith (s .nodes) (removed n (s .equations)))
+accepted s clear = transition cleared emptyState
 
 -- the answer to a call whose refusal is k: a refused call leaves the lists
-abbrev pub answer : State → Call → ℕ → Answer
-answer s c k = cond (eqb k 0) (accepted s c) (answerOf (refused k) s)
+abbrev pub answer : State → Call → ℕ → Transition
+answer s c k = cond (eqb k 0) (accepted s c) (transition (refused k) s)
 
-pub data Runs : State → List Call → List Answer → State → Type 0 where
+pub data Runs : State → List Call → List Transition → State → Type 0 where
   over : {s : State} → Runs s [] [] s
-  step : {s d : State} {c : Call} {cs : List Call} {rs : List Answer} (k : ℕ) → Refusal s c k
+  step : {s d : State} {c : Call} {cs : List Call} {rs : List Transition} (k : ℕ) → Refusal s c k
       → Runs (answer s c k .state) cs rs d → Runs s (c ∷ cs) (answer s c k ∷ rs) d

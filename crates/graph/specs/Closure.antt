@@ -4,7 +4,7 @@
 --   Below   the quotient graph leads down, by one step or more: stepping from parent to child, and freely within a class
 --   Clash   the closure joins two functor nodes of different labels
 --   Cycle   a node lies below itself
--- Inductive is what "least" means here; `same-least` and `below-least` of proofs/ClosureLaws say so. Assumes nothing: these are definitions.
+-- Inductive is what "least" means here; `same-least` and `below-least` of proofs/ClosureLaws say so.
 use mathlib.Core.List.{List}
 use Prim.Native.Nat.{ℕ}
 use Rattle.graph.specs.State.{Equation, State, functor, IsNode, NodeAt, ChildAt, Held, EqualLabels}

@@ -5,7 +5,6 @@
 --   Untidy       a field that a rule doesn't use is zero: a number there breaks each of the six rules
 --   Broken       lines that break a rule, or keep it and don't show the goal
 --   Refusals     the small examples of refusals 2 to 10, an example on each side of each limit, and the order of the refusals
--- Assumes nothing: these are definitions.
 use mathlib.Core.Path.{_≡_}
 use mathlib.Core.List.{List, [], _∷_, _++_}
 use mathlib.Core.Option.{none}
@@ -18,7 +17,7 @@ use Rattle.graph.specs.Solution.{Solution}
 use Rattle.graph.specs.Verdict.{Verdict}
 use Rattle.graph.specs.Lines.{Line}
 use Rattle.graph.specs.Goals.{Goal, clash-goal, cycle-goal, same-goal, below-goal, refused, broken-line, judge, Passes}
-use Rattle.graph.specs.Book.{Call, declare, equate, withdraw, Reply, number, held, gone, Answer, early, Refusal, answer, Runs}
+use Rattle.graph.specs.Book.{Call, declare, equate, withdraw, BookReply, number, held, gone, Transition, early, Refusal, answer, Runs}
 use Rattle.graph.specs.Book as book
 
 -- a proof buffer that is long enough
@@ -26,41 +25,41 @@ abbrev pub room : ℕ
 room = 65536
 
 -- a line: rule, place, first, second, and the number in bytes 6 and 7
-abbrev pub line : ℕ → ℕ → ℕ → ℕ → ℕ → Line
-line r p f s w = record { rule = r; place = p; first = f; second = s; reserved = w }
+abbrev pub lineWith : ℕ → ℕ → ℕ → ℕ → ℕ → Line
+lineWith r p f s w = record { rule = r; place = p; first = f; second = s; reserved = w }
 
 -- the lines of the six rules, with zero in the fields that the rule doesn't use. Rule 1: a name
 abbrev pub equation-line : ℕ → Line
-equation-line n = line 1 0 n 0 0
+equation-line n = lineWith 1 0 n 0 0
 
 -- rule 2: a functor node, a place from 1
 abbrev pub child-line : ℕ → ℕ → Line
-child-line u p = line 2 p u 0 0
+child-line u p = lineWith 2 p u 0 0
 
 -- rule 3: a node
 abbrev pub self-line : ℕ → Line
-self-line u = line 3 0 u 0 0
+self-line u = lineWith 3 0 u 0 0
 
 -- rule 4: an earlier line
 abbrev pub turned-line : ℕ → Line
-turned-line l = line 4 0 l 0 0
+turned-line l = lineWith 4 0 l 0 0
 
 -- rule 5: two earlier lines
 abbrev pub joined-line : ℕ → ℕ → Line
-joined-line l m = line 5 0 l m 0
+joined-line l m = lineWith 5 0 l m 0
 
 -- rule 6: an earlier line, a place from 1
 abbrev pub down-line : ℕ → ℕ → Line
-down-line l p = line 6 p l 0 0
+down-line l p = lineWith 6 p l 0 0
 
 -- the replies of a list of answers, without the states
-abbrev pub repliesOf : List Answer → List Reply
+abbrev pub repliesOf : List Transition → List BookReply
 repliesOf [] = []
 repliesOf (a ∷ rest) = a .reply ∷ repliesOf rest
 
 -- the book, from the start, answers the calls with these replies and then is in state d
-pub record Session (cs : List Call) (rs : List Reply) (d : State) : Type 0 where
-  pub answers : List Answer
+pub record ExampleRun (cs : List Call) (rs : List BookReply) (d : State) : Type 0 where
+  pub answers : List Transition
   pub runs : Runs emptyState cs answers d
   pub replies : repliesOf answers ≡ rs
 
@@ -84,7 +83,7 @@ program-calls =
     declare variable ∷ declare (functor 1 []) ∷ declare (functor 2 []) ∷ equate e10 room ∷ equate e11 room ∷ withdraw 10 ∷ equate e11 room ∷ []
 
 -- what the book replies to them
-abbrev pub program-replies : List Reply
+abbrev pub program-replies : List BookReply
 program-replies = number 0 ∷ number 1 ∷ number 2 ∷ held ∷ book.refused 8 ∷ gone ∷ held ∷ []
 
 -- 0 variable, 1 = symbol 5 of 0
@@ -118,7 +117,7 @@ pub record Starred : Type 0 where
   pub program-same : Same (stateWith program (e10 ∷ [])) 0 1
   -- after withdrawing 10, equation 11 has a solution
   pub program-after : Solution (stateWith program (e11 ∷ []))
-  pub program-session : Session program-calls program-replies (stateWith program (e11 ∷ []))
+  pub program-session : ExampleRun program-calls program-replies (stateWith program (e11 ∷ []))
   -- 0 = 1: cycle
   pub loop-cycle : Refusal loop (equate (equationOf 10 0 1) room) 9
   -- symbol 7 with one child against symbol 7 with two: clash
@@ -171,7 +170,7 @@ pub record SectionTwo : Type 0 where
   -- i is then held
   pub i-held : Refusal (stateWith types (a-b ++ c-g)) (equate eq-i room) 0
   -- all of it, a to i in order
-  pub session : Session (declares types ++ equates (a-b ++ (c-g ++ (eq-h ∷ eq-i ∷ []))))
+  pub session : ExampleRun (declares types ++ equates (a-b ++ (c-g ++ (eq-h ∷ eq-i ∷ []))))
       (tab 14 number ++ (replicate 7 held ++ (book.refused 8 ∷ held ∷ [])))
       (stateWith types (a-b ++ (c-g ++ (eq-i ∷ []))))
 
@@ -214,21 +213,21 @@ abbrev pub Spoilt : Goal → List Line → Line → Line → Type 0
 Spoilt g ls good bad = Passes pair g (ls ++ (good ∷ [])) × (judge pair g (ls ++ (bad ∷ [])) ≡ broken-line (length ls))
 
 pub record Untidy : Type 0 where
-  pub equation-place : Spoilt (same-goal 2 3) [] (equation-line 10) (line 1 1 10 0 0)
-  pub equation-second : Spoilt (same-goal 2 3) [] (equation-line 10) (line 1 0 10 1 0)
-  pub equation-reserved : Spoilt (same-goal 2 3) [] (equation-line 10) (line 1 0 10 0 1)
-  pub child-second : Spoilt (below-goal 2 0) [] (child-line 2 1) (line 2 1 2 1 0)
-  pub child-reserved : Spoilt (below-goal 2 0) [] (child-line 2 1) (line 2 1 2 0 1)
-  pub self-place : Spoilt (same-goal 2 2) [] (self-line 2) (line 3 1 2 0 0)
-  pub self-second : Spoilt (same-goal 2 2) [] (self-line 2) (line 3 0 2 1 0)
-  pub self-reserved : Spoilt (same-goal 2 2) [] (self-line 2) (line 3 0 2 0 1)
-  pub turned-place : Spoilt (same-goal 3 2) (equation-line 10 ∷ []) (turned-line 0) (line 4 1 0 0 0)
-  pub turned-second : Spoilt (same-goal 3 2) (equation-line 10 ∷ []) (turned-line 0) (line 4 0 0 1 0)
-  pub turned-reserved : Spoilt (same-goal 3 2) (equation-line 10 ∷ []) (turned-line 0) (line 4 0 0 0 1)
-  pub joined-place : Spoilt (below-goal 2 1) (equation-line 10 ∷ child-line 3 1 ∷ []) (joined-line 0 1) (line 5 1 0 1 0)
-  pub joined-reserved : Spoilt (below-goal 2 1) (equation-line 10 ∷ child-line 3 1 ∷ []) (joined-line 0 1) (line 5 0 0 1 1)
-  pub down-second : Spoilt (same-goal 0 1) (equation-line 10 ∷ []) (down-line 0 1) (line 6 1 0 1 0)
-  pub down-reserved : Spoilt (same-goal 0 1) (equation-line 10 ∷ []) (down-line 0 1) (line 6 1 0 0 1)
+  pub equation-place : Spoilt (same-goal 2 3) [] (equation-line 10) (lineWith 1 1 10 0 0)
+  pub equation-second : Spoilt (same-goal 2 3) [] (equation-line 10) (lineWith 1 0 10 1 0)
+  pub equation-reserved : Spoilt (same-goal 2 3) [] (equation-line 10) (lineWith 1 0 10 0 1)
+  pub child-second : Spoilt (below-goal 2 0) [] (child-line 2 1) (lineWith 2 1 2 1 0)
+  pub child-reserved : Spoilt (below-goal 2 0) [] (child-line 2 1) (lineWith 2 1 2 0 1)
+  pub self-place : Spoilt (same-goal 2 2) [] (self-line 2) (lineWith 3 1 2 0 0)
+  pub self-second : Spoilt (same-goal 2 2) [] (self-line 2) (lineWith 3 0 2 1 0)
+  pub self-reserved : Spoilt (same-goal 2 2) [] (self-line 2) (lineWith 3 0 2 0 1)
+  pub turned-place : Spoilt (same-goal 3 2) (equation-line 10 ∷ []) (turned-line 0) (lineWith 4 1 0 0 0)
+  pub turned-second : Spoilt (same-goal 3 2) (equation-line 10 ∷ []) (turned-line 0) (lineWith 4 0 0 1 0)
+  pub turned-reserved : Spoilt (same-goal 3 2) (equation-line 10 ∷ []) (turned-line 0) (lineWith 4 0 0 0 1)
+  pub joined-place : Spoilt (below-goal 2 1) (equation-line 10 ∷ child-line 3 1 ∷ []) (joined-line 0 1) (lineWith 5 1 0 1 0)
+  pub joined-reserved : Spoilt (below-goal 2 1) (equation-line 10 ∷ child-line 3 1 ∷ []) (joined-line 0 1) (lineWith 5 0 0 1 1)
+  pub down-second : Spoilt (same-goal 0 1) (equation-line 10 ∷ []) (down-line 0 1) (lineWith 6 1 0 1 0)
+  pub down-reserved : Spoilt (same-goal 0 1) (equation-line 10 ∷ []) (down-line 0 1) (lineWith 6 1 0 0 1)
 
 -- ---- lines that break a rule
 
@@ -237,10 +236,10 @@ abbrev pub BreaksAt : ℕ → List Line → Type 0
 BreaksAt k ls = judge pair (same-goal 2 3) ls ≡ broken-line k
 
 pub record Broken : Type 0 where
-  pub rule-0 : BreaksAt 0 (line 0 0 0 0 0 ∷ [])
-  pub rule-7 : BreaksAt 0 (line 7 0 0 0 0 ∷ [])
+  pub rule-0 : BreaksAt 0 (lineWith 0 0 0 0 0 ∷ [])
+  pub rule-7 : BreaksAt 0 (lineWith 7 0 0 0 0 ∷ [])
   -- the first such line is given
-  pub first-such : BreaksAt 1 (equation-line 10 ∷ line 7 0 0 0 0 ∷ line 8 0 0 0 0 ∷ [])
+  pub first-such : BreaksAt 1 (equation-line 10 ∷ lineWith 7 0 0 0 0 ∷ lineWith 8 0 0 0 0 ∷ [])
   -- a name that isn't held
   pub no-name : BreaksAt 0 (equation-line 11 ∷ [])
   -- places are counted from 1, to the number of children; a variable has none

@@ -4,7 +4,6 @@
 --   shows     a claim shows a goal
 --   judge     the checker's definition: passed, refusal 12 at the first line that breaks its rule, or refusal 13
 --   Cites     each equation line names an equation of the state
--- Assumes nothing: these are definitions.
 use mathlib.Core.Path.{_≡_}
 use mathlib.Core.Bool.{Bool, true, false, not, _&&_, cond}
 use mathlib.Core.List.{List, [], _∷_}
@@ -14,7 +13,7 @@ use lib.ListN.{getElem?}
 use lib.Dec.{eqb}
 use Rattle.graph.specs.State.{Node, State, nameHeld}
 use Rattle.graph.specs.Closure.{Same, Below, Clash, Cycle}
-use Rattle.graph.specs.Lines.{Line, Claim, same, below, Functor, functorAt, equalLabels, Checked, all, broken, checked}
+use Rattle.graph.specs.Lines.{Line, Claim, same, below, Functor, functorAt, equalLabels, LineClaims, all, broken, lineClaims}
 
 pub data Goal : Type 0 where
   clash-goal : Goal
@@ -55,7 +54,7 @@ lastOf [] = empty
 lastOf (c ∷ []) = ends c
 lastOf (c ∷ (d ∷ ds)) = lastOf (d ∷ ds)
 
-abbrev pub ended : Checked → Ended
+abbrev pub ended : LineClaims → Ended
 ended (all cs) = lastOf cs
 ended (broken k) = breaks k
 
@@ -71,7 +70,7 @@ judgeEnd ns g (breaks k) = broken-line k
 judgeEnd ns g empty = refused 13
 
 abbrev pub judge : State → Goal → List Line → Judgement
-judge s g ls = judgeEnd (s .nodes) g (ended (checked s [] ls))
+judge s g ls = judgeEnd (s .nodes) g (ended (lineClaims s [] ls))
 
 -- the checker passes the lines for the goal
 abbrev pub Passes : State → Goal → List Line → Type 0

@@ -4,8 +4,8 @@
 --   ruleTable    which fields a rule uses: document 01's one fixed table, a row for each of rules 1 to 6
 --   tidy         fields that the rule doesn't use are zero
 --   claimOf      what a line claims after the claims of the lines before it; none where it breaks its rule
---   checked      all claims of a list, or the number of the first line that breaks its rule
--- Rules 3, 4 and 5 (self, turned, joined) are reflexivity, symmetry and transitivity. Assumes nothing: these are definitions.
+--   lineClaims      all claims of a list, or the number of the first line that breaks its rule
+-- Rules 3, 4 and 5 (self, turned, joined) are reflexivity, symmetry and transitivity.
 use mathlib.Core.Bool.{Bool, true, false, _&&_, _||_, cond}
 use mathlib.Core.List.{List, [], _∷_, _++_}
 use mathlib.Core.Option.{Option, none, some}
@@ -156,19 +156,19 @@ unfoldable pub claimOf : State → List Claim → Line → Option Claim
 claimOf s done l = need (tidy l) (byRule s done l)
 
 -- all lines keep their rules, with these claims; or the number of the first that breaks its rule
-pub data Checked : Type 0 where
-  all : List Claim → Checked
-  broken : ℕ → Checked
+pub data LineClaims : Type 0 where
+  all : List Claim → LineClaims
+  broken : ℕ → LineClaims
 
-abbrev pub onAll : Checked → (List Claim → Checked) → Checked
+abbrev pub onAll : LineClaims → (List Claim → LineClaims) → LineClaims
 onAll (all cs) f = f cs
 onAll (broken k) f = broken k
 
 -- one line more: its number is how many stand before it
-abbrev pub more : List Claim → Option Claim → Checked
+abbrev pub more : List Claim → Option Claim → LineClaims
 more done none = broken (length done)
 more done (some c) = all (done ++ (c ∷ []))
 
-abbrev pub checked : State → List Claim → List Line → Checked
-checked s done [] = all done
-checked s done (l ∷ ls) = onAll (more done (claimOf s done l)) (λ next. checked s next ls)
+abbrev pub lineClaims : State → List Claim → List Line → LineClaims
+lineClaims s done [] = all done
+lineClaims s done (l ∷ ls) = onAll (more done (claimOf s done l)) (λ next. lineClaims s next ls)

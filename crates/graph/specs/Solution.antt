@@ -2,7 +2,6 @@
 --   Classes    a class number for each node: equated nodes have one class; functor nodes of one class have the same label
 --              and, place by place, children of one class. It rules out a clash, where there need be no solution
 --   Solution   classes, and a height for each node: nodes of one class have the same height, a child's is less than its parent's
--- Assumes nothing: these are definitions.
 use mathlib.Core.Path.{_≡_}
 use mathlib.Core.List.{List}
 use Prim.Native.Nat.{ℕ, _<_}

@@ -8,7 +8,6 @@
 --   EqualLabels  equal labels: one symbol, and equally many children
 --   Proper       each child is an earlier node, each end of an equation a known node
 --   offered      the state with one equation more, document 01's held and offered together
--- Assumes nothing: these are definitions.
 use mathlib.Core.Path.{_≡_}
 use mathlib.Core.Bool.{Bool, true, false, cond}
 use mathlib.Core.List.{List, [], _∷_, _++_}

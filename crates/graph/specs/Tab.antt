@@ -1,5 +1,5 @@
 -- `tab n f`: the list of f's values at 0 to n - 1. How an array, or several side by side, is read as a list.
--- Its laws stand in proofs/TabLaws. Assumes nothing: this is a definition.
+-- Its laws stand in proofs/TabLaws.
 use mathlib.Core.List.{List, [], _∷_}
 use Prim.Native.Nat.{ℕ, zero, suc}
 

@@ -1,6 +1,5 @@
 -- The verdict of a set of equations, as document 01 numbers it: 8 where the closure clashes, 9 where it doesn't clash but has a
 -- cycle, 0 where it does neither. So 8 comes before 9. `verdict-unique` of proofs/SolutionLaws says that there is just one.
--- Assumes nothing: these are definitions.
 use Prim.Native.Nat.{ℕ}
 use Rattle.graph.specs.State.{State}
 use Rattle.graph.specs.Closure.{Clash, Cycle}

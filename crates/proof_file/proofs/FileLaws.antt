@@ -1,4 +1,4 @@
--- Laws of the proof file: what a reply tells, and that writing and reading are inverse. Assumes nothing.
+-- Laws of the proof file: what a reply tells, and that writing and reading are inverse.
 use mathlib.Core.Path.{_≡_, refl, sym, ap, _∙_}
 use mathlib.Core.Bool.{Bool, true, false, not, _&&_, _||_, cond}
 use mathlib.Core.List.{List, [], _∷_, _++_}
@@ -11,8 +11,8 @@ use lib.ListN.{length, getD, drop, take, length-drop}
 use lib.Seq.{take-all, take-length, drop-append-add, drop-drop, paste}
 use lib.Dec.{eqb, ltb}
 use borrow.Author.Tests.{eqb-true, eqb-false, eq-eqb, ne-eqb, ltb-false, le-ltb, not-true}
-use Rattle.lines.specs.Codec.{two}
-use Rattle.checker.specs.Answers.{badLength}
+use Rattle.proof_lines.specs.Codec.{two}
+use Rattle.proof_check.specs.Answers.{badLength}
 use Rattle.proof_file.specs.File.{headerOf, fileOf, isMarked, isCounted, fileRefusal, linesOr, linesIn}
 use Rattle.proof_file.specs.RoundTrip.{ReadBack, RoundTrip}
 use Rattle.proof_file.specs.Contracts.{readReply}

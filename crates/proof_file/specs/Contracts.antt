@@ -1,7 +1,6 @@
 -- What writing and reading a proof file promise.
 --   FileReply as document 01's number: `refusalOf`
 --   Writes    the reply with the byte count, and the buffer: the file, then the bytes past it as they were; a refusal leaves all
--- Assumes nothing: these are definitions.
 use mathlib.Core.Path.{_≡_}
 use mathlib.Core.List.{List, _++_}
 use mathlib.Core.Option.{Option, none, some}
@@ -17,9 +16,9 @@ abbrev pub readReply : Option ℕ → ReadReply
 readReply none = read.Readable
 readReply (some k) = read.Refused k
 
-abbrev pub Written : Option ℕ → List ℕ → List ℕ → List ℕ → WriteReply → Type 0
-Written none lines before after r = (r ≡ write.Wrote (7 + length lines)) × (after ≡ fileOf lines ++ drop (7 + length lines) before)
-Written (some k) lines before after r = (r ≡ write.Refused k) × (after ≡ before)
+abbrev pub FileWritten : Option ℕ → List ℕ → List ℕ → List ℕ → WriteReply → Type 0
+FileWritten none lines before after r = (r ≡ write.Wrote (7 + length lines)) × (after ≡ fileOf lines ++ drop (7 + length lines) before)
+FileWritten (some k) lines before after r = (r ≡ write.Refused k) × (after ≡ before)
 
 abbrev pub Writes : List ℕ → List ℕ → List ℕ → WriteReply → Type 0
-Writes lines before after r = Written (writeRefusal (length lines) (length before)) lines before after r
+Writes lines before after r = FileWritten (writeRefusal (length lines) (length before)) lines before after r

@@ -3,15 +3,14 @@
 --   fileRefusal   why bytes are no proof file: 15 under 7 bytes; 14 mark or version; 15 count or length
 --   linesIn       the lines in a file, the bytes after its seven header bytes; none where it is refused
 --   writeRefusal  why lines aren't written: 11 their length, 17 the buffer's
--- Assumes nothing: these are definitions.
 use mathlib.Core.Bool.{Bool, not, _&&_, cond}
 use mathlib.Core.List.{List, [], _∷_, _++_}
 use mathlib.Core.Option.{Option, none, some}
 use Prim.Native.Nat.{ℕ, _+_, _*_, _/_, _%_}
 use lib.ListN.{length, getD, drop}
 use lib.Dec.{eqb, ltb}
-use Rattle.lines.specs.Codec.{two}
-use Rattle.checker.specs.Answers.{badLength}
+use Rattle.proof_lines.specs.Codec.{two}
+use Rattle.proof_check.specs.Answers.{badLength}
 
 -- `PTH`, version 1, and the count
 abbrev pub headerOf : ℕ → List ℕ

@@ -4,8 +4,8 @@ ghost use Prim.Native.Nat.{_+_, _≤_, _<_};
 ghost use mathlib.Core.List.{_++_};
 ghost use lib.ListN.{length, drop};
 ghost use lib.Seq.{paste};
-ghost use Rattle.lines.specs.Codec.{two};
-ghost use Rattle.checker.specs.Answers.{badLength as badLines};
+ghost use Rattle.proof_lines.specs.Codec.{two};
+ghost use Rattle.proof_check.specs.Answers.{badLength as badLines};
 ghost use Rattle.proof_file.specs.File.{isMarked, isCounted, fileRefusal, linesIn, headerOf};
 ghost use Rattle.proof_file.specs.Contracts.{readReply, Writes};
 

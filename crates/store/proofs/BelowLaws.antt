@@ -1,4 +1,4 @@
--- The test that each of a list's numbers is below a bound, one at a time. Assumes nothing.
+-- The test that each of a list's numbers is below a bound, one at a time.
 use mathlib.Core.Path.{_≡_, refl, sym, ap, _∙_}
 use mathlib.Core.Bool.{Bool, true, false, _&&_}
 use mathlib.Core.List.{List, [], _∷_}

@@ -1,4 +1,4 @@
--- Two numbers in one order or the other, equal or not. Assumes nothing.
+-- Two numbers in one order or the other, equal or not.
 use mathlib.Core.Path.{_≡_, refl}
 use mathlib.Core.Bool.{Bool, true, false}
 use mathlib.Core.Logic.{_⊎_, inl, inr}

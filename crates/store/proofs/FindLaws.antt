@@ -1,4 +1,4 @@
--- The first place of a name, and the first equation of that name on the list (`named` of graph's Lines). Assumes nothing.
+-- The first place of a name, and the first equation of that name on the list (`named` of graph's Lines).
 use mathlib.Core.Path.{_≡_, refl}
 use mathlib.Core.Option.{none, some}
 use Prim.Native.Nat.{ℕ, zero, suc, _≤_, _<_}

@@ -1,4 +1,4 @@
--- On well-shaped values, and on lists within the limits, the two views are inverse. Assumes nothing.
+-- On well-shaped values, and on lists within the limits, the two views are inverse.
 use mathlib.Core.Path.{_≡_, refl, sym, ap, ap₂, _∙_}
 use mathlib.Core.Bool.{Bool, true, false, cond}
 use mathlib.Core.Logic.{⊎-elim}

@@ -1,4 +1,4 @@
--- One node, one equation more at the end: the lists get longer by it, and the shape stays. Assumes nothing.
+-- One node, one equation more at the end: the lists get longer by it, and the shape stays.
 use mathlib.Core.Path.{_≡_, refl, sym, ap, ap₂, _∙_}
 use mathlib.Core.Bool.{Bool, true, false}
 use mathlib.Core.Logic.{⊎-elim}

@@ -1,4 +1,4 @@
--- The first place of a name, and what taking that place out of each array does to the list of equations. Assumes nothing.
+-- The first place of a name, and what taking that place out of each array does to the list of equations.
 use mathlib.Core.Path.{_≡_, refl, sym, ap, _∙_}
 use mathlib.Core.Bool.{Bool, true, false, cond}
 use mathlib.Core.Logic.{⊎-elim}

@@ -1,4 +1,4 @@
--- The arrays read as lists: how many stand there, what is found at a place, and what a find tells of the arrays. Assumes nothing.
+-- The arrays read as lists: how many stand there, what is found at a place, and what a find tells of the arrays.
 use mathlib.Core.Path.{_≡_, refl, sym, ap, _∙_}
 use mathlib.Core.Bool.{Bool, true, false, cond}
 use mathlib.Core.List.{List, [], _∷_}
@@ -12,7 +12,7 @@ use Rattle.graph.specs.State.{Node, variable, functor, Equation, IsNode, NodeAt
 use Rattle.graph.specs.Tab.{tab}
 use Rattle.graph.proofs.ListLaws.{found-lt}
 use Rattle.graph.proofs.TabLaws.{tab-length, tab-at}
-use Rattle.store.specs.Views.{kindAt, symbolAt, arityAt, childAt, childrenAt, nodeAt, nodesOf, equationAt, equationsOf, stateOf}
+use Rattle.store.specs.Views.{kindAt, symbolAt, arityAt, childAt, childrenAt, nodeAt, nodesOf, equationAt, equationsOf, stateFrom}
 use Rattle.store.specs.Shape.{Shape}
 use Rattle.store.specs.declared.Terms.{Terms}
 use Rattle.store.specs.declared.Equations.{Equations}
@@ -96,36 +96,36 @@ module _ (e : Equations) where
 -- ---- the state
 
 module _ (t : Terms) (e : Equations) where
-  pub node-in : (u : ℕ) → u < t .count → IsNode (stateOf t e) u
+  pub node-in : (u : ℕ) → u < t .count → IsNode (stateFrom t e) u
   node-in u h = rw nodes-length h
 
-  pub node-counted : (u : ℕ) → IsNode (stateOf t e) u → u < t .count
+  pub node-counted : (u : ℕ) → IsNode (stateFrom t e) u → u < t .count
   node-counted u h = rw nodes-length at h
 
-  pub held-found : (k : ℕ) → k < e .count → Held (stateOf t e) (equationAt e k)
+  pub held-found : (k : ℕ) → k < e .count → Held (stateFrom t e) (equationAt e k)
   held-found k h = (k, equation-found e k h)
 
-  pub held-known : (d : Equation) → Held (stateOf t e) d → (k : ℕ) × (k < e .count) × (equationAt e k ≡ d)
+  pub held-known : (d : Equation) → Held (stateFrom t e) d → (k : ℕ) × (k < e .count) × (equationAt e k ≡ d)
   held-known d h =
       let k : (h .0 < e .count) × (equationAt e (h .0) ≡ d) = equation-known e (h .0) d (h .1) in
       (h .0, k .0, k .1)
 
-  pub shape-proper : Shape t e → Proper (stateOf t e)
+  pub shape-proper : Shape t e → Proper (stateFrom t e)
   shape-proper s = record { earlier = child-earlier; left-known = left-in; right-known = right-in }
     where
-      child-earlier : (u f i v : ℕ) (cs : List ℕ) → NodeAt (stateOf t e) u (functor f cs) → ChildAt cs i v → v < u
+      child-earlier : (u f i v : ℕ) (cs : List ℕ) → NodeAt (stateFrom t e) u (functor f cs) → ChildAt cs i v → v < u
       child-earlier u f i v cs n c =
           let k : (u < t .count) × (kindAt t u ≡ 1) × (symbolAt t u ≡ f) × (childrenAt t u ≡ cs) = functor-known t u f cs n in
           let d : (i < arityAt t u) × (childAt t u i ≡ v) = child-known t u i v (rw (k .3) c) in
           let r : childAt t u i < u = s .terms .earlier u i (omega (arith, k .0, s .terms .few)) (d .0) in
           rw (d .1) at r
 
-      left-in : (d : Equation) → Held (stateOf t e) d → IsNode (stateOf t e) (d .left)
+      left-in : (d : Equation) → Held (stateFrom t e) d → IsNode (stateFrom t e) (d .left)
       left-in d h =
           let k : (k : ℕ) × (k < e .count) × (equationAt e k ≡ d) = held-known d h in
           node-in (d .left) (rw (ap (λ (x : Equation). x .left) (k .2)) at (s .equations .lefts (k .0) (k .1)))
 
-      right-in : (d : Equation) → Held (stateOf t e) d → IsNode (stateOf t e) (d .right)
+      right-in : (d : Equation) → Held (stateFrom t e) d → IsNode (stateFrom t e) (d .right)
       right-in d h =
           let k : (k : ℕ) × (k < e .count) × (equationAt e k ≡ d) = held-known d h in
           node-in (d .right) (rw (ap (λ (x : Equation). x .right) (k .2)) at (s .equations .rights (k .0) (k .1)))

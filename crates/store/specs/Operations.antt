@@ -3,7 +3,7 @@
 --   PutsNode      declare: one node more, at the end
 --   PutsEquation  equate: one equation more, at the end
 --   Removes       withdraw: the equation of a name taken out, the rest closing up in order, the freed place zero
--- The exact struct stands beside the lists, so that a value that isn't well-shaped has just one result too. Assumes nothing: these
+-- The exact struct stands beside the lists, so that a value that isn't well-shaped has just one result too.
 -- are definitions.
 use mathlib.Core.Path.{_≡_}
 use mathlib.Core.Bool.{true, false, cond}

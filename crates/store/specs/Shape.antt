@@ -3,7 +3,6 @@
 --                   a variable's symbol, number of children and children among them
 --   EquationsShape  count in range, known ends, names all different, zero in every unused place
 --   Shape           both
--- Assumes nothing: these are definitions.
 use mathlib.Core.Path.{_≡_}
 use Prim.Native.Nat.{ℕ, _≤_, _<_}
 use lib.ListN.{length, getD}

@@ -1,10 +1,10 @@
 -- The arrays read as the lists of a state, and back.
 --   terms, equations          a value of the struct by its fields: how a contract over lent arrays names one
 --   nodesOf, equationsOf      the lists that the arrays hold
---   stateOf                   both, as a state
+--   stateFrom                   both, as a state
 --   packTerms, packEquations  the arrays that hold given lists, with zero in every unused place
 --   freshTerms, freshEquations  no nodes, no equations
--- On well-shaped values (specs/Shape) the two directions are inverse: proofs/PackLaws. Assumes nothing: these are definitions.
+-- On well-shaped values (specs/Shape) the two directions are inverse: proofs/PackLaws.
 use mathlib.Core.Bool.{cond}
 use mathlib.Core.List.{List}
 use mathlib.Core.Option.{Option, none, some}
@@ -59,8 +59,8 @@ equationAt e k = equationOf (getD (e .name) k 0) (getD (e .left) k 0) (getD (e .
 unfoldable pub equationsOf : Equations → List Equation
 equationsOf e = tab (e .count) (equationAt e)
 
-abbrev pub stateOf : Terms → Equations → State
-stateOf t e = stateWith (nodesOf t) (equationsOf e)
+abbrev pub stateFrom : Terms → Equations → State
+stateFrom t e = stateWith (nodesOf t) (equationsOf e)
 
 -- ---- lists to arrays
 

@@ -2,9 +2,9 @@
 use super::proved;
 use super::sample;
 use super::tools;
-use shorter::ShorterReply;
-use unifier::Goal;
-use unifier::Offer;
+use proof_shorter::ShorterReply;
+use unifier::GoalAsked;
+use unifier::OfferAsked;
 use unifier::Workspace;
 
 // A proof with one line more: `self` of a node before its last line, which no line cites.
@@ -46,13 +46,13 @@ fn handed(r: ShorterReply, part: &[u8], a: &[u8], b: &[u8]) -> bool {
 // The reply, or refusal 0 where another part is handed back.
 pub fn choose<'a>(
     w: Workspace,
-    offer: Offer,
-    goal: Goal,
+    offer: OfferAsked,
+    goal: GoalAsked,
     a: &'a [u8],
     b: &'a [u8],
 ) -> ShorterReply {
-    let r = shorter::shorter_reply(w, offer, a, b, goal);
-    if handed(r, shorter::shorter(w, offer, a, b, goal), a, b) {
+    let r = proof_shorter::shorter_reply(w, offer, a, b, goal);
+    if handed(r, proof_shorter::shorter(w, offer, a, b, goal), a, b) {
         return r;
     }
     ShorterReply::Refused(0)
@@ -106,7 +106,13 @@ fn pairs<'a>(w: Workspace, p: &'a [u8], desk: &'a [u8]) {
         let n: [u64; 2] = [(i / 8) as u64, (i % 8) as u64];
         tools::print(b"lists # and #", &n, 0);
         let a = list(i / 8, p, desk);
-        show(choose(w, Offer::Nothing, Goal::Same(5, 2), a, list(i % 8, p, desk)));
+        show(choose(
+            w,
+            OfferAsked::Nothing,
+            GoalAsked::Same(5, 2),
+            a,
+            list(i % 8, p, desk),
+        ));
         i += 1;
     }
 }
@@ -126,7 +132,7 @@ pub fn lists(w: Workspace, p: &[u8]) {
 
 // Refusals that come before the lists'
 
-fn early(what: &[u8], w: Workspace, offer: Offer, goal: Goal) {
+fn early(what: &[u8], w: Workspace, offer: OfferAsked, goal: GoalAsked) {
     let none: [u8; 0] = [];
     tools::told(true, what, 0);
     show(choose(w, offer, goal, &none, &none));
@@ -136,32 +142,32 @@ pub fn earlies(w: Workspace) {
     early(
         b"no bytes, same 5 and 9",
         w,
-        Offer::Nothing,
-        Goal::Same(5, 9),
+        OfferAsked::Nothing,
+        GoalAsked::Same(5, 9),
     );
     early(
         b"no bytes, below 9 and 5",
         w,
-        Offer::Nothing,
-        Goal::Below(9, 5),
+        OfferAsked::Nothing,
+        GoalAsked::Below(9, 5),
     );
     early(
         b"no bytes, 8 = 9 offered, its name held",
         w,
-        Offer::Equation(10, 8, 9),
-        Goal::Clash,
+        OfferAsked::Equation(10, 8, 9),
+        GoalAsked::Clash,
     );
     early(
         b"no bytes, 8 = 7 offered, its name held",
         w,
-        Offer::Equation(10, 8, 7),
-        Goal::Clash,
+        OfferAsked::Equation(10, 8, 7),
+        GoalAsked::Clash,
     );
     early(
         b"no bytes, 8 = 7 offered",
         w,
-        Offer::Equation(13, 8, 7),
-        Goal::Clash,
+        OfferAsked::Equation(13, 8, 7),
+        GoalAsked::Clash,
     );
 }
 
@@ -171,7 +177,7 @@ pub fn clash(w: Workspace, proof: &mut [u8]) {
     let r = o.reply;
     let a = sample::equated_as(r);
     let p = tools::part(proof, 0, a.bytes);
-    let good = proved::good(w, Offer::Equation(13, 8, 7), Goal::Clash, p);
+    let good = proved::good(w, OfferAsked::Equation(13, 8, 7), GoalAsked::Clash, p);
     tools::told(
         good,
         b"8 = 7 offered, the proof of its clash: passed, written, read back, chosen\n",

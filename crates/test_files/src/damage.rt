@@ -4,8 +4,8 @@ use super::proved;
 use super::reading;
 use super::tools;
 use unifier::CheckReply;
-use unifier::Goal;
-use unifier::Offer;
+use unifier::GoalAsked;
+use unifier::OfferAsked;
 use unifier::Workspace;
 
 // Places of the counts.
@@ -51,7 +51,7 @@ fn judged(r: CheckReply, k: usize, must: bool) -> usize {
 fn checked(w: Workspace, lines: &[u8], at: usize, bit: u8) -> usize {
     let k = at >> 3;
     let must = must_break(tools::get(lines, k << 3), at % 8, bit);
-    let o = w.check(Offer::Nothing, lines, Goal::Same(5, 2));
+    let o = w.check(OfferAsked::Nothing, lines, GoalAsked::Same(5, 2));
     let r = o.reply;
     tools::place_if(reading::stands(lines, k), judged(r, k, must))
 }
@@ -83,7 +83,7 @@ fn bits(w: Workspace, file: &mut [u8], size: usize, tally: &mut [u64]) {
 pub fn all(w: Workspace, lines: &[u8]) {
     let mut file = [0u8; 4096];
     let mut tally = [0u64; 7];
-    let good = proved::good(w, Offer::Nothing, Goal::Same(5, 2), lines);
+    let good = proved::good(w, OfferAsked::Nothing, GoalAsked::Same(5, 2), lines);
     tools::told(
         good,
         b"the proof of 5 same 2: passed, written, read back, chosen\n",

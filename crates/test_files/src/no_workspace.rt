@@ -1,12 +1,12 @@
 // Refusal 1's small example: node 0 has child 0. Every call refuses it; clear takes it, and what it gives is a workspace without nodes.
 use super::tools;
-use shorter::ShorterReply;
+use proof_shorter::ShorterReply;
 use store::Equations;
 use store::Terms;
 use unifier::ClassReply;
 use unifier::Comparison;
-use unifier::Goal;
-use unifier::Offer;
+use unifier::GoalAsked;
+use unifier::OfferAsked;
 use unifier::Outcome;
 use unifier::Reply;
 use unifier::Workspace;
@@ -52,7 +52,7 @@ fn class_of(w: Workspace) -> u64 {
 }
 
 fn chosen(w: Workspace, line: &[u8]) -> u64 {
-    match shorter::shorter_reply(w, Offer::Nothing, line, line, Goal::Same(0, 0)) {
+    match proof_shorter::shorter_reply(w, OfferAsked::Nothing, line, line, GoalAsked::Same(0, 0)) {
         ShorterReply::Refused(k) => k as u64,
         _ => 0,
     }
@@ -73,7 +73,7 @@ pub fn changes(w: Workspace, proof: &mut [u8]) {
 
 pub fn questions(w: Workspace, proof: &mut [u8]) {
     let line: [u8; 8] = [3, 0, 0, 0, 0, 0, 0, 0];
-    let check = tools::check(w, Offer::Nothing, Goal::Same(0, 0), &line);
+    let check = tools::check(w, OfferAsked::Nothing, GoalAsked::Same(0, 0), &line);
     let n: [u64; 5] = [
         compare(w, proof),
         class_of(w),

@@ -4,8 +4,8 @@ use super::files;
 use super::reading;
 use super::tools;
 use proof_file::WriteReply;
-use unifier::Goal;
-use unifier::Offer;
+use unifier::GoalAsked;
+use unifier::OfferAsked;
 use unifier::Workspace;
 
 // Lines written, read back and read line by line: tells the file's bytes, or 0 where something came otherwise.
@@ -22,7 +22,7 @@ pub fn filed(lines: &[u8], file: &mut [u8]) -> usize {
     }
 }
 
-fn chosen(w: Workspace, offer: Offer, goal: Goal, p: &[u8]) -> bool {
+fn chosen(w: Workspace, offer: OfferAsked, goal: GoalAsked, p: &[u8]) -> bool {
     let mut desk = [0u8; 4096];
     choosing::lengthen(&mut desk, 0, p, 0);
     let x = tools::part(&desk, 0, std::num::wrapping_add_usize(p.len(), 8));
@@ -31,7 +31,7 @@ fn chosen(w: Workspace, offer: Offer, goal: Goal, p: &[u8]) -> bool {
     (first == 1) & (second == 2)
 }
 
-pub fn good(w: Workspace, offer: Offer, goal: Goal, p: &[u8]) -> bool {
+pub fn good(w: Workspace, offer: OfferAsked, goal: GoalAsked, p: &[u8]) -> bool {
     let mut file = [0u8; 4096];
     let passes = tools::check(w, offer, goal, p) == 0;
     passes & (0 < filed(p, &mut file)) & chosen(w, offer, goal, p)

@@ -3,8 +3,8 @@ use super::proved;
 use super::sample;
 use super::sample::Answer;
 use super::tools;
-use unifier::Goal;
-use unifier::Offer;
+use unifier::GoalAsked;
+use unifier::OfferAsked;
 use unifier::Workspace;
 
 // Places of the counts are the replies, as in `Answer`; the last has the random state.
@@ -22,18 +22,18 @@ fn draw(tally: &mut [u64], n: u64) -> u16 {
     }
 }
 
-fn goal_of(place: usize, u: u16, v: u16) -> Goal {
+fn goal_of(place: usize, u: u16, v: u16) -> GoalAsked {
     match place {
-        2 => Goal::Clash,
-        3 => Goal::Cycle,
-        4 => Goal::Same(u, v),
-        5 => Goal::Below(u, v),
-        _ => Goal::Below(v, u),
+        2 => GoalAsked::Clash,
+        3 => GoalAsked::Cycle,
+        4 => GoalAsked::Same(u, v),
+        5 => GoalAsked::Below(u, v),
+        _ => GoalAsked::Below(v, u),
     }
 }
 
 // The place of the reply, or 0 where its proof isn't good.
-fn placed(w: Workspace, offer: Offer, goal: Goal, a: Answer, proof: &[u8]) -> usize {
+fn placed(w: Workspace, offer: OfferAsked, goal: GoalAsked, a: Answer, proof: &[u8]) -> usize {
     let k = a.place;
     let ok = proved::good(w, offer, goal, tools::part(proof, 0, a.bytes));
     tools::place_if(ok | (k == 1) | (k == 7), k)
@@ -50,7 +50,7 @@ fn equate(w: Workspace, name: u16, tally: &mut [u64], proof: &mut [u8]) -> Works
     let goal = goal_of(a.place, u, v);
     tools::add(
         tally,
-        placed(w, Offer::Equation(name, u, v), goal, a, proof),
+        placed(w, OfferAsked::Equation(name, u, v), goal, a, proof),
     );
     o.workspace
 }
@@ -62,7 +62,7 @@ fn compare(w: Workspace, tally: &mut [u64], proof: &mut [u8]) {
     let r = o.reply;
     let a = sample::compared_as(r);
     let goal = goal_of(a.place, u, v);
-    tools::add(tally, placed(w, Offer::Nothing, goal, a, proof));
+    tools::add(tally, placed(w, OfferAsked::Nothing, goal, a, proof));
 }
 
 // Two variables first, then variables and functor nodes of two symbols and two children.

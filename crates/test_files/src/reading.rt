@@ -2,8 +2,8 @@
 use super::tools;
 use super::tools::get;
 use super::tools::pair;
-use line_reader::Found;
-use line_reader::NextLine;
+use proof_reader::Found;
+use proof_reader::NextLine;
 
 // Bytes, and the line that is read.
 const SIZES: [usize; 10] = [0, 7, 8, 8, 9, 15, 16, 16, 16, 16];
@@ -32,13 +32,13 @@ fn as_bytes(s: &[u8], k: usize, f: Found) -> bool {
 }
 
 pub fn stands(s: &[u8], k: usize) -> bool {
-    as_bytes(s, k, line_reader::read_line(s, k)) & as_bytes(s, k, line_reader::step_at(s, k))
+    as_bytes(s, k, proof_reader::read_line(s, k)) & as_bytes(s, k, proof_reader::step_at(s, k))
 }
 
 // Every line, and three steps at the end.
 pub fn all_stand(s: &[u8]) -> bool {
     let n = s.len() / 8;
-    let mut ok = line_reader::count_lines(s) == n;
+    let mut ok = proof_reader::count_lines(s) == n;
     let mut k: usize = 0;
     while k < n + 3 {
         ok = ok & stands(s, k);
@@ -76,9 +76,13 @@ fn show(f: Found) {
 }
 
 fn step(s: &[u8], k: usize) {
-    let n: [u64; 3] = [line_reader::count_lines(s) as u64, s.len() as u64, k as u64];
+    let n: [u64; 3] = [
+        proof_reader::count_lines(s) as u64,
+        s.len() as u64,
+        k as u64,
+    ];
     tools::print(b"# lines in # bytes, line #", &n, 0);
-    show(line_reader::read_line(s, k));
+    show(proof_reader::read_line(s, k));
     tools::told(stands(s, k), b"\n", 0);
 }
 

@@ -1,7 +1,7 @@
 // Printing, counting, and reads and writes that stay inside.
 use unifier::CheckReply;
-use unifier::Goal;
-use unifier::Offer;
+use unifier::GoalAsked;
+use unifier::OfferAsked;
 use unifier::Workspace;
 
 // One byte of a form: tells how many numbers it took.
@@ -109,7 +109,7 @@ pub fn equal(a: &[u8], b: &[u8]) -> bool {
 }
 
 // The checker's refusal, or 0.
-pub fn check(w: Workspace, offer: Offer, goal: Goal, lines: &[u8]) -> u64 {
+pub fn check(w: Workspace, offer: OfferAsked, goal: GoalAsked, lines: &[u8]) -> u64 {
     let o = w.check(offer, lines, goal);
     let r = o.reply;
     match r {

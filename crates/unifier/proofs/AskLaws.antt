@@ -1,4 +1,4 @@
--- Compare, class and check, which leave the workspace: a law for each way out. Assumes nothing.
+-- Compare, class and check, which leave the workspace: a law for each way out.
 use mathlib.Core.Path.{_≡_, refl}
 use mathlib.Core.List.{List}
 use mathlib.Core.Option.{Option, none, some}
@@ -7,7 +7,7 @@ use lib.ListN.{length}
 use borrow.Author.Tests.{lt-ltb, le-ltb}
 use Rattle.graph.specs.State.{Equation}
 use Rattle.graph.specs.Goals.{Goal}
-use Rattle.classes.specs.Members.{ClassOf}
+use Rattle.solve_classes.specs.Members.{ClassOf}
 use Rattle.store.proofs.ViewLaws.{nodes-length}
 use Rattle.unifier.specs.Views.{stateOf, Valid}
 use Rattle.unifier.specs.Replies.{judged, compared, classified, checked}

@@ -1,4 +1,4 @@
--- The lines that a call left, handed to check: it passes them. Assumes nothing.
+-- The lines that a call left, handed to check: it passes them.
 use mathlib.Core.Path.{_≡_, refl, sym, _∙_, subst}
 use mathlib.Core.Bool.{Bool, true, false, not, _||_, cond}
 use mathlib.Core.List.{List, [], _∷_, _++_}
@@ -10,15 +10,15 @@ use lib.Dec.{eqb, ltb, leb}
 use borrow.Author.Tests.{lt-ltb, lt-leb, le-leb, ltb-true, ltb-false}
 use Rattle.graph.specs.State.{State, Equation, nameHeld, offered}
 use Rattle.graph.specs.Goals.{Goal, clash-goal, cycle-goal, same-goal, below-goal, Judgement, passed, refused, broken-line, shows, Ended, ends, breaks, empty, lastOf, ended, judgeEnd, judge}
-use Rattle.graph.specs.Lines.{Line, Claim, Checked, all, broken, onAll, more, claimOf, checked}
+use Rattle.graph.specs.Lines.{Line, Claim, LineClaims, all, broken, onAll, more, claimOf, lineClaims}
 use Rattle.graph.proofs.BoolLaws.{and-left, and-right}
 use Rattle.graph.proofs.TabLaws.{tab-length}
-use Rattle.lines.specs.Codec.{lineAt, firstLines, linesOf}
-use Rattle.lines.specs.Proof.{ProofIn}
-use Rattle.checker.specs.Answers.{badLength, judgedAs, answerTo}
-use Rattle.checker.proofs.AnswerLaws.{proof-passes}
-use Rattle.checker.specs.declared.Judged.{Judged}
-use Rattle.checker.specs.declared.Judged.the-variants.{Refused, Broken}
+use Rattle.proof_lines.specs.Codec.{lineAt, firstLines, linesOf}
+use Rattle.proof_lines.specs.Proof.{ProofIn}
+use Rattle.proof_check.specs.Answers.{badLength, judgedAs, answerTo}
+use Rattle.proof_check.proofs.AnswerLaws.{proof-passes}
+use Rattle.proof_check.specs.declared.Judged.{Judged}
+use Rattle.proof_check.specs.declared.Judged.the-variants.{Refused, Broken}
 use Rattle.store.specs.Operations.{First}
 use Rattle.store.proofs.ViewLaws.{nodes-length}
 use Rattle.store.proofs.RemoveLaws.{held-tells}
@@ -27,10 +27,10 @@ use Rattle.unifier.specs.Replies.{goalOf, offerOf}
 use Rattle.unifier.specs.Check.{bothBelow, offerBelow, goalBelow, offerNew, withOffer, checkReply}
 use Rattle.unifier.specs.Inner.{Reported, Checking}
 use Rattle.unifier.specs.declared.Workspace.{Workspace}
-use Rattle.unifier.specs.declared.Goal as goals
-use Rattle.unifier.specs.declared.Goal.the-variants as goal
-use Rattle.unifier.specs.declared.Offer.{Offer}
-use Rattle.unifier.specs.declared.Offer.the-variants as offer
+use Rattle.unifier.specs.declared.GoalAsked as goals
+use Rattle.unifier.specs.declared.GoalAsked.the-variants as goal
+use Rattle.unifier.specs.declared.OfferAsked.{OfferAsked}
+use Rattle.unifier.specs.declared.OfferAsked.the-variants as offer
 
 offer-judged : (s : State) (e : Equation) (g : Goal) (bytes : List ℕ) → bothBelow (length (s .nodes)) (e .left) (e .right) ≡ true
     → nameHeld (e .name) (s .equations) ≡ false → goalBelow (length (s .nodes)) g ≡ true → checkReply s (some e) g bytes ≡ answerTo (offered s e) g bytes
@@ -53,17 +53,17 @@ both-right : (n u v : ℕ) → bothBelow n u v ≡ true → v < n
 both-right n u v h = ltb-true v n (and-right (ltb u n) (ltb v n) h)
 
 module _ (n u v : ℕ) where
-  pub offer-ends : (o : Offer) (k : ℕ) → o ≡ offer.Equation k u v → offerBelow n (offerOf o) ≡ true → (u < n) × (v < n)
+  pub offer-ends : (o : OfferAsked) (k : ℕ) → o ≡ offer.Equation k u v → offerBelow n (offerOf o) ≡ true → (u < n) × (v < n)
   offer-ends o k e h =
       let b : bothBelow n u v ≡ true = rw e at h in
       (both-left n u v b, both-right n u v b)
 
-  pub same-ends : (g : goals.Goal) → g ≡ goal.Same u v → goalBelow n (goalOf g) ≡ true → (u < n) × (v < n)
+  pub same-ends : (g : goals.GoalAsked) → g ≡ goal.Same u v → goalBelow n (goalOf g) ≡ true → (u < n) × (v < n)
   same-ends g e h =
       let b : bothBelow n u v ≡ true = rw e at h in
       (both-left n u v b, both-right n u v b)
 
-  pub below-ends : (g : goals.Goal) → g ≡ goal.Below u v → goalBelow n (goalOf g) ≡ true → (u < n) × (v < n)
+  pub below-ends : (g : goals.GoalAsked) → g ≡ goal.Below u v → goalBelow n (goalOf g) ≡ true → (u < n) × (v < n)
   below-ends g e h =
       let b : bothBelow n u v ≡ true = rw e at h in
       (both-left n u v b, both-right n u v b)
@@ -73,12 +73,12 @@ unfolding firstLines
 lines-count bytes = tab-length (length bytes / 8) (lineAt bytes)
 
 -- a line that breaks its rule is one of the lines
-broken-within : (s : State) (done : List Claim) (ls : List Line) (k : ℕ) → checked s done ls ≡ broken k → k < length done + length ls
+broken-within : (s : State) (done : List Claim) (ls : List Line) (k : ℕ) → lineClaims s done ls ≡ broken k → k < length done + length ls
 broken-within s done [] k h = absurd (let z : _≡_ {A = ℕ} 0 1 = cc in omega arith)
 broken-within s done (l ∷ ls) k h = go (claimOf s done l) h (λ c. broken-within s (done ++ (c ∷ [])) ls k)
   where
-    go : (o : Option Claim) → onAll (more done o) (λ next. checked s next ls) ≡ broken k
-        → ((c : Claim) → checked s (done ++ (c ∷ [])) ls ≡ broken k → k < length (done ++ (c ∷ [])) + length ls) → k < length done + length (l ∷ ls)
+    go : (o : Option Claim) → onAll (more done o) (λ next. lineClaims s next ls) ≡ broken k
+        → ((c : Claim) → lineClaims s (done ++ (c ∷ [])) ls ≡ broken k → k < length (done ++ (c ∷ [])) + length ls) → k < length done + length (l ∷ ls)
     go none q r = let e : length done ≡ k = cc in omega arith
     go (some c) q r = omega (arith, r c q, length-append done (c ∷ []))
 
@@ -109,15 +109,15 @@ module _ (s : State) (g : Goal) (bytes : List ℕ) where
       last-not (c ∷ []) k q = let z : _≡_ {A = ℕ} 0 1 = cc in omega arith
       last-not (c ∷ (d ∷ ds)) k q = last-not (d ∷ ds) k q
 
-      within : (r : Checked) → ((k : ℕ) → r ≡ broken k → k < 65536) → (k : ℕ) → ended r ≡ breaks k → k < 65536
+      within : (r : LineClaims) → ((k : ℕ) → r ≡ broken k → k < 65536) → (k : ℕ) → ended r ≡ breaks k → k < 65536
       within (all cs) h k q = absurd (last-not cs k q)
       within (broken j) h k q = let e : j ≡ k = cc in h k (rw e refl)
 
       go : (b : Bool) → badLength (length bytes) ≡ b → Reported (cond b (refused 11) (judge s g (linesOf bytes)))
       go true e = tt
       go false e =
-          ending (ended (checked s [] (linesOf bytes)))
-          (within (checked s [] (linesOf bytes))
+          ending (ended (lineClaims s [] (linesOf bytes)))
+          (within (lineClaims s [] (linesOf bytes))
           (λ k q. omega (arith, broken-within s [] (linesOf bytes) k q, lines-count bytes, short (length bytes) e)))
 
   pub reported : (j : Judgement) → j ≡ answerTo s g bytes → Reported j
@@ -133,7 +133,7 @@ pub reply-broken : (j : Judged) (i : ℕ) → j ≡ Broken i → broken-line i �
 reply-broken j i e = rw e
 
 -- the offered name is held exactly where it is found among those in use
-pub name-new : (w : Workspace) (o : Offer) (n u v k : ℕ) → o ≡ offer.Equation n u v → First (w .equations .name) (w .equations .count) n k
+pub name-new : (w : Workspace) (o : OfferAsked) (n u v k : ℕ) → o ≡ offer.Equation n u v → First (w .equations .name) (w .equations .count) n k
     → leb (w .equations .count) k ≡ offerNew (stateOf w) (offerOf o)
 name-new w o n u v k e f = rw (e, held-tells (w .equations) n k f) (go (ltb k (w .equations .count)) refl)
   where

@@ -1,12 +1,12 @@
--- The class reply, from the class table. Assumes nothing.
+-- The class reply, from the class table.
 use mathlib.Core.Path.{_≡_}
 use mathlib.Core.Bool.{Bool, true, false}
 use mathlib.Core.List.{List}
 use Prim.Native.Nat.{ℕ, zero, suc, _≤_, _<_}
 use native.Mathlib.Omega.{arith}
-use Rattle.classes.specs.Table.{class}
-use Rattle.classes.specs.Members.{inClass, digit, sizeOf, lowestFrom}
-use Rattle.classes.proofs.MemberLaws.{lowest-class, class-of}
+use Rattle.solve_classes.specs.Table.{class}
+use Rattle.solve_classes.specs.Members.{inClass, digit, sizeOf, lowestFrom}
+use Rattle.solve_classes.proofs.MemberLaws.{lowest-class, class-of}
 use Rattle.store.proofs.ViewLaws.{nodes-length}
 use Rattle.unifier.specs.Views.{stateOf}
 use Rattle.unifier.specs.Replies.{classified}

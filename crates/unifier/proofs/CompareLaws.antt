@@ -1,13 +1,13 @@
--- Compare past its refusals: what the search asks, and the reply to each case. Assumes nothing.
+-- Compare past its refusals: what the search asks, and the reply to each case.
 use mathlib.Core.Path.{_≡_, subst}
 use mathlib.Core.List.{List}
 use Prim.Native.Nat.{ℕ, _≤_, _<_}
 use lib.ListN.{length}
 use borrow.Author.Tests.{lt-ltb, le-ltb}
 use Rattle.store.proofs.ViewLaws.{nodes-length, shape-proper}
-use Rattle.respond.specs.Stands as respond
-use Rattle.respond.specs.declared.Standing.{Standing}
-use Rattle.respond.specs.declared.Standing.the-variants as standing
+use Rattle.unifier_respond.specs.Stands as respond
+use Rattle.unifier_respond.specs.declared.Standing.{Standing}
+use Rattle.unifier_respond.specs.declared.Standing.the-variants as standing
 use Rattle.unifier.specs.Views.{stateOf, Valid}
 use Rattle.unifier.specs.Replies.{compared}
 use Rattle.unifier.specs.Compare.{Stands, same, below, above, apart, Compares}
@@ -45,9 +45,9 @@ module _ (w : Workspace) (u v : ℕ) (before table trace : List ℕ) (steps : �
     right-known = c .right-known;
   }
 
-  module _ (after : List ℕ) (r : Standing) (a : respond.Stands (stateOf w) u v before after r) where
-    on : (q : Standing) → r ≡ q → respond.Stands (stateOf w) u v before after q
-    on q h = subst (respond.Stands (stateOf w) u v before after) h a
+  module _ (after : List ℕ) (r : Standing) (a : respond.StandingProved (stateOf w) u v before after r) where
+    on : (q : Standing) → r ≡ q → respond.StandingProved (stateOf w) u v before after q
+    on q h = subst (respond.StandingProved (stateOf w) u v before after) h a
 
     told : (q : Comparison) → Stands (stateOf w) u v before after q → Compares w u v before after (compared q w)
     told q s =

@@ -1,4 +1,4 @@
--- Equate past its early refusals: what the verdict asks, and the reply to each. Assumes nothing.
+-- Equate past its early refusals: what the verdict asks, and the reply to each.
 use mathlib.Core.Path.{_≡_, refl, ap, subst}
 use mathlib.Core.Bool.{Bool, true, false, _&&_, cond}
 use mathlib.Core.List.{List}
@@ -14,9 +14,9 @@ use Rattle.store.specs.Views.{nodesOf, equationsOf}
 use Rattle.store.specs.Operations.{PutsEquation}
 use Rattle.store.specs.declared.Equations.{Equations}
 use Rattle.store.proofs.ViewLaws.{nodes-length, equations-length, shape-proper}
-use Rattle.respond.specs.Responds.{Asked, Responds}
-use Rattle.respond.specs.declared.Response.{Response}
-use Rattle.respond.specs.declared.Response.the-variants as response
+use Rattle.unifier_respond.specs.Responds.{OfferPosed, Responds}
+use Rattle.unifier_respond.specs.declared.Response.{Response}
+use Rattle.unifier_respond.specs.declared.Response.the-variants as response
 use Rattle.unifier.specs.Views.{workspaceOf, stateOf, Valid}
 use Rattle.unifier.specs.Replies.{outcome}
 use Rattle.unifier.specs.Equate.{Equates}
@@ -65,7 +65,7 @@ module _ (w : Workspace) (e : Equation) (before table trace : List ℕ) (steps :
 
   -- d is the held equations with e at their end
   module _ (d : Equations) (p : PutsEquation (w .equations) (e .name) (e .left) (e .right) d) where
-    pub asked : Asked (w .terms) (w .equations) d (e .left) (e .right) table trace steps
+    pub asked : OfferPosed (w .terms) (w .equations) d (e .left) (e .right) table trace steps
     asked = record {
       shape = o .solved .shape;
       going = record {

@@ -4,8 +4,8 @@ use Prim.Native.Nat.{ℕ}
 use contract.Lifetimes.{Lfts}
 use denote.Ref.{RefT}
 use Rattle.unifier.specs.declared.Workspace.{Workspace}
-use Rattle.unifier.specs.declared.Offer.{Offer}
-use Rattle.unifier.specs.declared.Goal.{Goal}
+use Rattle.unifier.specs.declared.OfferAsked.{OfferAsked}
+use Rattle.unifier.specs.declared.GoalAsked.{GoalAsked}
 use Rattle.unifier.proofs.Workspace.fresh.Reads as fresh
 use Rattle.unifier.proofs.Workspace.declare_variable.Reads as declare-variable
 use Rattle.unifier.proofs.Workspace.declare_functor.Reads as declare-functor
@@ -25,7 +25,7 @@ pub record Free : Type 0 where
   pub clears : (w : Workspace) → clear.Pre tt (w, tt)
   pub compares : (κs : Lfts 1) (w : Workspace) (u v : ℕ) (lent : RefT (List ℕ)) → compare.Pre κs (w, (u, (v, (lent, tt))))
   pub classifies : (w : Workspace) (u : ℕ) → class-of.Pre tt (w, (u, tt))
-  pub checks : (κs : Lfts 1) (w : Workspace) (f : Offer) (lines : RefT (List ℕ)) (g : Goal) → check.Pre κs (w, (f, (lines, (g, tt))))
+  pub checks : (κs : Lfts 1) (w : Workspace) (f : OfferAsked) (lines : RefT (List ℕ)) (g : GoalAsked) → check.Pre κs (w, (f, (lines, (g, tt))))
 
 pub free : Free
 free = record {

@@ -1,4 +1,4 @@
--- What a call gives back is what it promises: a law for each way out. Assumes nothing.
+-- What a call gives back is what it promises: a law for each way out.
 use mathlib.Core.Path.{_≡_, refl, sym, ap, _∙_, subst}
 use mathlib.Core.Bool.{true, false}
 use mathlib.Core.List.{List, [], _∷_, _++_}
@@ -14,13 +14,13 @@ use Rattle.graph.specs.Verdict.{Verdict}
 use Rattle.graph.specs.Goals.{clash-goal, cycle-goal}
 use Rattle.graph.specs.Book as book
 use Rattle.graph.proofs.StateLaws.{declare-accepted, solution-declared, solution-removed}
-use Rattle.lines.specs.Proof.{ProofIn}
+use Rattle.proof_lines.specs.Proof.{ProofIn}
 use Rattle.store.specs.Views.{nodesOf, equationsOf}
 use Rattle.store.specs.Shape.{TermsShape, EquationsShape, Shape}
 use Rattle.store.proofs.ViewLaws.{nodes-length, equations-length, shape-proper}
 use Rattle.store.specs.declared.Terms.{Terms}
 use Rattle.store.specs.declared.Equations.{Equations}
-use Rattle.examine.specs.Examines.{Solved}
+use Rattle.unifier_examine.specs.Examines.{Solved}
 use Rattle.unifier.specs.Views.{workspaceOf, stateOf, packed, Valid}
 use Rattle.unifier.specs.Replies.{said, outcome}
 use Rattle.unifier.specs.Inner.{Classed, Early}

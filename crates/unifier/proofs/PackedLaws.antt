@@ -1,4 +1,4 @@
--- A workspace and the state that it holds, each from the other; the fresh workspace. Assumes nothing.
+-- A workspace and the state that it holds, each from the other; the fresh workspace.
 use mathlib.Core.Path.{_≡_, refl, sym, ap, ap₂, _∙_, subst}
 use mathlib.Core.List.{List}
 use mathlib.Core.Option.{some}

@@ -2,7 +2,6 @@
 -- nothing changed; on a workspace, the book's answer to the call.
 --   Follows   the reply and the workspace are the book's; `number` is that of the refusal, 0 for none, and `refusal` leaves just one
 --   Answers   both parts
--- Assumes nothing: these are definitions.
 use mathlib.Core.Path.{_≡_}
 use Prim.Native.Nat.{ℕ}
 use Rattle.graph.specs.Book as book

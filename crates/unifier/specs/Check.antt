@@ -1,7 +1,6 @@
 -- What check promises: an equation. Refusals 1; 4 where the offered equation or the goal names an unknown node; 6 where the offered
 -- name is held; then the checker's own answer to the bytes (`answerTo`: 11, 12 with the line, 13, or passed), on the state of held
 -- and offered equations together.
--- Assumes nothing: these are definitions.
 use mathlib.Core.Path.{_≡_}
 use mathlib.Core.Bool.{Bool, true, not, _&&_, cond}
 use mathlib.Core.List.{List}
@@ -11,7 +10,7 @@ use lib.ListN.{length}
 use lib.Dec.{ltb}
 use Rattle.graph.specs.State.{State, Equation, nameHeld, offered}
 use Rattle.graph.specs.Goals.{Goal, clash-goal, cycle-goal, same-goal, below-goal, Judgement, refused}
-use Rattle.checker.specs.Answers.{answerTo}
+use Rattle.proof_check.specs.Answers.{answerTo}
 use Rattle.unifier.specs.Views.{stateOf, Valid}
 use Rattle.unifier.specs.Replies.{judged}
 use Rattle.unifier.specs.declared.Workspace.{Workspace}

@@ -1,13 +1,12 @@
 -- What class promises: refusals 1 and 4 in that order; else the lowest node number of the node's class and how many nodes it has,
 -- both fixed by `ClassOf`. The workspace always comes back as it was.
--- Assumes nothing: these are definitions.
 use mathlib.Core.Path.{_≡_}
 use mathlib.Core.Bool.{Bool, true, false}
 use Prim.Native.Nat.{ℕ}
 use lib.ListN.{length}
 use lib.Dec.{ltb}
 use Rattle.graph.specs.State.{State}
-use Rattle.classes.specs.Members.{ClassOf}
+use Rattle.solve_classes.specs.Members.{ClassOf}
 use Rattle.unifier.specs.Views.{stateOf, Valid}
 use Rattle.unifier.specs.declared.Workspace.{Workspace}
 use Rattle.unifier.specs.declared.Classified.{Classified}
@@ -15,13 +14,13 @@ use Rattle.unifier.specs.declared.ClassReply.{ClassReply}
 use Rattle.unifier.specs.declared.ClassReply.the-variants as says
 
 -- the class of a known node
-abbrev pub Tells : State → ℕ → ClassReply → Type 0
-Tells s u (says.Class low size) = ClassOf s u low size
-Tells s u (says.Refused k) = ⊥
+abbrev pub ClassIs : State → ℕ → ClassReply → Type 0
+ClassIs s u (says.Class low size) = ClassOf s u low size
+ClassIs s u (says.Refused k) = ⊥
 
 -- whether the node is known
 abbrev pub ClassReplies : Bool → State → ℕ → ClassReply → Type 0
-ClassReplies true s u r = Tells s u r
+ClassReplies true s u r = ClassIs s u r
 ClassReplies false s u r = r ≡ says.Refused 4
 
 pub record Classifies (w : Workspace) (u : ℕ) (r : Classified) : Type 0 where

@@ -3,7 +3,6 @@
 -- a proof. The workspace always comes back as it was.
 --   Stands     how two nodes stand, in the closure of s
 --   Compares   the whole promise
--- Assumes nothing: these are definitions.
 use mathlib.Core.Path.{_≡_}
 use mathlib.Core.Bool.{_&&_, cond}
 use mathlib.Core.List.{List}
@@ -14,7 +13,7 @@ use lib.Dec.{ltb}
 use Rattle.graph.specs.State.{State}
 use Rattle.graph.specs.Closure.{Same, Below}
 use Rattle.graph.specs.Goals.{same-goal, below-goal}
-use Rattle.lines.specs.Proof.{ProofIn}
+use Rattle.proof_lines.specs.Proof.{ProofIn}
 use Rattle.unifier.specs.Views.{stateOf, Valid}
 use Rattle.unifier.specs.declared.Workspace.{Workspace}
 use Rattle.unifier.specs.declared.Compared.{Compared}

@@ -1,6 +1,5 @@
 -- What equate promises: the book's answer, and what it leaves in the lent buffer.
 --   Written   a clash or a cycle leaves a proof of it that passes with the offered equation; any other reply leaves the bytes
--- Assumes nothing: these are definitions.
 use mathlib.Core.Path.{_≡_}
 use mathlib.Core.List.{List}
 use Prim.Native.Nat.{ℕ, _<_}
@@ -8,7 +7,7 @@ use lib.ListN.{length}
 use Rattle.graph.specs.State.{State, Equation, offered}
 use Rattle.graph.specs.Goals.{clash-goal, cycle-goal}
 use Rattle.graph.specs.Book as book
-use Rattle.lines.specs.Proof.{ProofIn}
+use Rattle.proof_lines.specs.Proof.{ProofIn}
 use Rattle.unifier.specs.Views.{stateOf}
 use Rattle.unifier.specs.Answers.{Answers}
 use Rattle.unifier.specs.declared.Workspace.{Workspace}

@@ -5,7 +5,6 @@
 --   Comparing  a solved workspace, two known nodes and a buffer that is long enough
 --   Reported   the line of refusal 12 fits 16 bits
 --   Checking   an offer and a goal with known nodes and a new name
--- Assumes nothing: these are definitions.
 use mathlib.Core.Path.{_≡_}
 use mathlib.Core.List.{List}
 use mathlib.Core.Option.{Option, none, some}
@@ -13,11 +12,11 @@ use Prim.Native.Nat.{ℕ, _≤_, _<_}
 use mathlib.Core.Bool.{true}
 use Rattle.graph.specs.State.{Equation}
 use Rattle.graph.specs.Goals.{Goal, Judgement, passed, refused, broken-line}
-use Rattle.classes.specs.Table.{Table}
-use Rattle.classes.specs.Exact.{Exact}
-use Rattle.classes.specs.Members.{Alone}
+use Rattle.solve_classes.specs.Table.{Table}
+use Rattle.solve_classes.specs.Exact.{Exact}
+use Rattle.solve_classes.specs.Members.{Alone}
 use Rattle.graph.specs.Book as book
-use Rattle.examine.specs.Examines.{Solved}
+use Rattle.unifier_examine.specs.Examines.{Solved}
 use Rattle.unifier.specs.Views.{stateOf, Valid}
 use Rattle.unifier.specs.Check.{offerBelow, goalBelow, offerNew}
 use Rattle.unifier.specs.declared.Workspace.{Workspace}

@@ -4,7 +4,6 @@
 --   goalOf    the goal, by graph's
 --   offerOf   the offered equation, if there is one
 --   outcome, compared, classified, checked   a reply beside a workspace
--- Assumes nothing: these are definitions.
 use mathlib.Core.Option.{Option, none, some}
 use Rattle.graph.specs.State.{Equation, equationOf}
 use Rattle.graph.specs.Goals.{Judgement, passed, refused, broken-line, clash-goal, cycle-goal, same-goal, below-goal}
@@ -21,12 +20,12 @@ use Rattle.unifier.specs.declared.Comparison.{Comparison}
 use Rattle.unifier.specs.declared.Classified.{Classified}
 use Rattle.unifier.specs.declared.ClassReply.{ClassReply}
 use Rattle.unifier.specs.declared.Checked.{Checked}
-use Rattle.unifier.specs.declared.Goal.{Goal}
-use Rattle.unifier.specs.declared.Goal.the-variants as goal
-use Rattle.unifier.specs.declared.Offer.{Offer}
-use Rattle.unifier.specs.declared.Offer.the-variants as offer
+use Rattle.unifier.specs.declared.GoalAsked.{GoalAsked}
+use Rattle.unifier.specs.declared.GoalAsked.the-variants as goal
+use Rattle.unifier.specs.declared.OfferAsked.{OfferAsked}
+use Rattle.unifier.specs.declared.OfferAsked.the-variants as offer
 
-abbrev pub said : Reply → book.Reply
+abbrev pub said : Reply → book.BookReply
 said (Node i) = book.number i
 said Held = book.held
 said Gone = book.gone
@@ -39,13 +38,13 @@ judged check.Passed = passed
 judged (check.Refused k) = refused k
 judged (check.Broken i) = broken-line i
 
-abbrev pub goalOf : Goal → goals.Goal
+abbrev pub goalOf : GoalAsked → goals.Goal
 goalOf goal.Clash = clash-goal
 goalOf goal.Cycle = cycle-goal
 goalOf (goal.Same u v) = same-goal u v
 goalOf (goal.Below u v) = below-goal u v
 
-abbrev pub offerOf : Offer → Option Equation
+abbrev pub offerOf : OfferAsked → Option Equation
 offerOf offer.Nothing = none
 offerOf (offer.Equation n u v) = some (equationOf n u v)
 

@@ -2,7 +2,6 @@
 --   stateOf     the two lists that a workspace holds: what document 01's book is held against
 --   packed      the workspace that holds a state: its two lists in order, zero in unused places
 --   Valid       document 01's "is a workspace": well-shaped, and the held equations have a solution
--- Assumes nothing: these are definitions.
 use Rattle.graph.specs.State.{State}
 use Rattle.graph.specs.Solution.{Solution}
 use Rattle.store.specs.Views as store
@@ -18,7 +17,7 @@ abbrev pub freshWorkspace : Workspace
 freshWorkspace = workspaceOf store.freshTerms store.freshEquations
 
 abbrev pub stateOf : Workspace → State
-stateOf w = store.stateOf (w .terms) (w .equations)
+stateOf w = store.stateFrom (w .terms) (w .equations)
 
 abbrev pub packed : State → Workspace
 packed s = workspaceOf (store.packTerms (s .nodes)) (store.packEquations (s .equations))

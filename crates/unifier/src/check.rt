@@ -2,18 +2,18 @@
 ghost use mathlib.Core.Bool.{true};
 ghost use mathlib.Core.Path.{_≡_};
 ghost use Rattle.graph.specs.State.{State};
-ghost use Rattle.claims.specs.Claims as claims;
-ghost use Rattle.checker.specs.Answers as answers;
+ghost use Rattle.proof_claims.specs.Claims as claims;
+ghost use Rattle.proof_check.specs.Answers as answers;
 ghost use Rattle.unifier.specs.Views.{stateOf, Valid};
 ghost use Rattle.unifier.specs.Replies.{judged, goalOf, offerOf, checked};
 ghost use Rattle.unifier.specs.Check.{bothBelow, offerBelow, goalBelow, offerNew, withOffer, Checks};
 ghost use Rattle.unifier.specs.Inner.{Reported, Checking};
 use super::CheckReply;
 use super::Checked;
-use super::Goal;
-use super::Offer;
+use super::GoalAsked;
+use super::OfferAsked;
 use super::Workspace;
-use checker::Judged;
+use proof_check::Judged;
 
 fn both_below(u: u16, v: u16, n: usize) -> bool
     ensures { λ r. ⌜ r ≡ bothBelow n u v ⌝ }
@@ -24,46 +24,46 @@ fn both_below(u: u16, v: u16, n: usize) -> bool
     (v as usize) < n
 }
 
-fn offer_below(offer: Offer, n: usize) -> bool
+fn offer_below(offer: OfferAsked, n: usize) -> bool
     ensures { λ r. ⌜ r ≡ offerBelow n (offerOf offer) ⌝ }
 {
     match offer {
-        Offer::Nothing => true,
-        Offer::Equation(_, u, v) => both_below(u, v, n),
+        OfferAsked::Nothing => true,
+        OfferAsked::Equation(_, u, v) => both_below(u, v, n),
     }
 }
 
-fn goal_below(goal: Goal, n: usize) -> bool
+fn goal_below(goal: GoalAsked, n: usize) -> bool
     ensures { λ r. ⌜ r ≡ goalBelow n (goalOf goal) ⌝ }
 {
     match goal {
-        Goal::Clash => true,
-        Goal::Cycle => true,
-        Goal::Same(u, v) => both_below(u, v, n),
-        Goal::Below(u, v) => both_below(u, v, n),
+        GoalAsked::Clash => true,
+        GoalAsked::Cycle => true,
+        GoalAsked::Same(u, v) => both_below(u, v, n),
+        GoalAsked::Below(u, v) => both_below(u, v, n),
     }
 }
 
 // The offer as the checker takes it: nodes are bytes.
-fn offer_of(offer: Offer) -> rules::Offer
+fn offer_of(offer: OfferAsked) -> proof_rules::KnownOffer
     requires { ⌜ offerBelow 64 (offerOf offer) ≡ true ⌝ }
     ensures { λ r. ⌜ ((s : State) → claims.withOffer r s ≡ withOffer s (offerOf offer)) ⌝ }
 {
     match offer {
-        Offer::Nothing => rules::Offer::Nothing,
-        Offer::Equation(name, u, v) => rules::Offer::Equate(name, u as u8, v as u8),
+        OfferAsked::Nothing => proof_rules::KnownOffer::Nothing,
+        OfferAsked::Equation(name, u, v) => proof_rules::KnownOffer::Equate(name, u as u8, v as u8),
     }
 }
 
-fn goal_of(goal: Goal) -> checker::Goal
+fn goal_of(goal: GoalAsked) -> proof_check::KnownGoal
     requires { ⌜ goalBelow 64 (goalOf goal) ≡ true ⌝ }
-    ensures { λ r. ⌜ answers.goalOf r ≡ goalOf goal ⌝ }
+    ensures { λ r. ⌜ answers.knownGoalOf r ≡ goalOf goal ⌝ }
 {
     match goal {
-        Goal::Clash => checker::Goal::Clash,
-        Goal::Cycle => checker::Goal::Cycle,
-        Goal::Same(u, v) => checker::Goal::Same(u as u8, v as u8),
-        Goal::Below(u, v) => checker::Goal::Below(u as u8, v as u8),
+        GoalAsked::Clash => proof_check::KnownGoal::Clash,
+        GoalAsked::Cycle => proof_check::KnownGoal::Cycle,
+        GoalAsked::Same(u, v) => proof_check::KnownGoal::Same(u as u8, v as u8),
+        GoalAsked::Below(u, v) => proof_check::KnownGoal::Below(u as u8, v as u8),
     }
 }
 
@@ -88,13 +88,13 @@ impl Workspace {
         }
     }
 
-    fn offer_new(self, offer: Offer) -> bool
+    fn offer_new(self, offer: OfferAsked) -> bool
         requires { ⌜ Valid self ⌝ }
         ensures { λ r. ⌜ r ≡ offerNew (stateOf self) (offerOf offer) ⌝ }
     {
         match offer {
-            Offer::Nothing => true,
-            Offer::Equation(name, _, _) => {
+            OfferAsked::Nothing => true,
+            OfferAsked::Equation(name, _, _) => {
                 let e = self.equations;
                 let m = e.count;
                 let names = e.name;
@@ -105,7 +105,7 @@ impl Workspace {
     }
 
     // The checker's answer, once refusals 1, 4 and 6 are past.
-    fn judge(self, offer: Offer, lines: &[u8], goal: Goal) -> Checked
+    fn judge(self, offer: OfferAsked, lines: &[u8], goal: GoalAsked) -> Checked
         requires { ⌜ Checking self (offerOf offer) (goalOf goal) ⌝ }
         ensures { λ r. ⌜ Checks self (offerOf offer) (goalOf goal) (now (lines .entry)) r ⌝ }
     {
@@ -115,7 +115,7 @@ impl Workspace {
         let m = e.count;
         let o = offer_of(offer);
         let g = goal_of(goal);
-        let j = checker::check(
+        let j = proof_check::check(
             &t.kind,
             &t.symbol,
             &t.arity,
@@ -136,7 +136,7 @@ impl Workspace {
         }
     }
 
-    fn check_in(self, offer: Offer, lines: &[u8], goal: Goal) -> Checked
+    fn check_in(self, offer: OfferAsked, lines: &[u8], goal: GoalAsked) -> Checked
         requires { ⌜ Valid self ⌝ }
         ensures { λ r. ⌜ Checks self (offerOf offer) (goalOf goal) (now (lines .entry)) r ⌝ }
     {
@@ -154,7 +154,7 @@ impl Workspace {
         self.refuse_check(4)
     }
 
-    pub fn check(self, offer: Offer, lines: &[u8], goal: Goal) -> Checked
+    pub fn check(self, offer: OfferAsked, lines: &[u8], goal: GoalAsked) -> Checked
         ensures { λ r. ⌜ Checks self (offerOf offer) (goalOf goal) (now (lines .entry)) r ⌝ }
     {
         let mut trace = [0u16; 64];

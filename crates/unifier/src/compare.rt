@@ -2,14 +2,14 @@
 ghost use mathlib.Core.Path.{_≡_};
 ghost use Prim.Native.Nat.{_<_};
 ghost use lib.ListN.{length};
-ghost use Rattle.examine.specs.Examines.{Solved};
+ghost use Rattle.unifier_examine.specs.Examines.{Solved};
 ghost use Rattle.unifier.specs.Replies.{compared};
 ghost use Rattle.unifier.specs.Compare.{Compares};
 ghost use Rattle.unifier.specs.Inner.{Comparing};
 use super::Compared;
 use super::Comparison;
 use super::Workspace;
-use respond::Standing;
+use unifier_respond::Standing;
 
 impl Workspace {
     fn refuse_comparison(self, number: u8) -> Compared
@@ -36,7 +36,7 @@ impl Workspace {
     {
         let t = self.terms;
         let e = self.equations;
-        let s = respond::stand_parts(proof, table, trace, steps, t, e, u as u8, v as u8);
+        let s = unifier_respond::stand_parts(proof, table, trace, steps, t, e, u as u8, v as u8);
         match s {
             Standing::Same(lines) => Compared {
                 reply: Comparison::Same(lines),

@@ -8,7 +8,7 @@ ghost use Rattle.unifier.specs.Inner.{Early, Offering};
 use super::Outcome;
 use super::Reply;
 use super::Workspace;
-use respond::Response;
+use unifier_respond::Response;
 
 impl Workspace {
     // The first of refusals 5, 4, 6 and 7 that applies, or 0.
@@ -59,7 +59,7 @@ impl Workspace {
         let x = left as u8;
         let y = right as u8;
         let d = e.put(name, x, y);
-        let r = respond::offer_parts(proof, table, trace, steps, t, e, d, x, y);
+        let r = unifier_respond::offer_parts(proof, table, trace, steps, t, e, d, x, y);
         match r {
             Response::Held => {
                 self.equations = d;

@@ -3,7 +3,7 @@ ghost use mathlib.Core.Path.{_≡_};
 ghost use lib.ListN.{length};
 ghost use Rattle.graph.specs.State.{variable, functor};
 ghost use Rattle.graph.specs.Book as book;
-ghost use Rattle.examine.specs.Examines.{Examines};
+ghost use Rattle.unifier_examine.specs.Examines.{Examines};
 ghost use Rattle.unifier.specs.Views.{freshWorkspace, Valid};
 ghost use Rattle.unifier.specs.Replies.{outcome, classified};
 ghost use Rattle.unifier.specs.Inner.{Classed};
@@ -14,9 +14,9 @@ mod check; // the calls of these names
 mod compare;
 mod equate;
 
-use examine::Examined;
 use store::Equations;
 use store::Terms;
+use unifier_examine::Examined;
 
 pub struct Workspace {
     pub terms: Terms,
@@ -64,13 +64,13 @@ pub struct Classified {
 }
 
 // An equation offered beside the held ones: name, left, right.
-pub enum Offer {
+pub enum OfferAsked {
     Nothing,
     Equation(u16, u16, u16),
 }
 
 // What a proof is to show.
-pub enum Goal {
+pub enum GoalAsked {
     Clash,
     Cycle,
     Same(u16, u16),
@@ -115,7 +115,7 @@ impl Workspace {
     {
         let t = self.terms;
         let e = self.equations;
-        examine::examine_parts(t, e, trace)
+        unifier_examine::examine_parts(t, e, trace)
     }
 
     fn refuse(self, number: u8) -> Outcome
@@ -237,8 +237,8 @@ impl Workspace {
             return self.refuse_class(4);
         }
         let c = table[x];
-        let low = classes::lowest(table, c);
-        let size = classes::size(table, c);
+        let low = solve_classes::lowest(table, c);
+        let size = solve_classes::size(table, c);
         Classified {
             reply: ClassReply::Class(low as u8, size as u8),
             workspace: self,

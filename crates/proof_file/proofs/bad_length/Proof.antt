@@ -1,4 +1,4 @@
--- `proof_file::bad_length` meets its contract. Assumes nothing.
+-- `proof_file::bad_length` meets its contract.
 use borrow.Author.Tests.{eq-eqb, ne-eqb, lt-ltb, le-ltb}
 use Rattle.proof_file.proofs.bad_length.Statement.{statement}
 use Rattle.proof_file.proofs.bad_length.Tie as tie

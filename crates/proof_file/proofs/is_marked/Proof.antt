@@ -1,33 +1,21 @@
--- `proof_file::is_marked` meets its contract. Assumes nothing.
+-- `proof_file::is_marked` meets its contract.
 use borrow.Author.Tests.{eq-eqb, ne-eqb}
 use Rattle.proof_file.specs.File.{isMarked}
 use borrow.Author.Needs.{needs}
 use Rattle.proof_file.proofs.is_marked.Statement.{statement}
 use Rattle.proof_file.proofs.is_marked.Tie as tie
 
-shared-slice-read-if1 : tie.Need-shared-slice-read-if1
-shared-slice-read-if1 c = search needs
-
 returns : tie.Need-returns
 unfolding isMarked
 returns c = rw (ne-eqb _ _ (c .if1 .taken))
-
-shared-slice-read-if2 : tie.Need-shared-slice-read-if2
-shared-slice-read-if2 c = search needs
 
 returns-2 : tie.Need-returns-2
 unfolding isMarked
 returns-2 c = rw (eq-eqb _ _ (c .before .before .if1 .left), ne-eqb _ _ (c .if2 .taken))
 
-shared-slice-read-if3 : tie.Need-shared-slice-read-if3
-shared-slice-read-if3 c = search needs
-
 returns-3 : tie.Need-returns-3
 unfolding isMarked
 returns-3 c = rw (eq-eqb _ _ (c .before .before .before .before .if1 .left), eq-eqb _ _ (c .before .before .if2 .left), ne-eqb _ _ (c .if3 .taken))
-
-pair-requires : tie.Need-pair-requires
-pair-requires c κs = search needs
 
 returns-4 : tie.Need-returns-4
 unfolding isMarked
@@ -37,11 +25,11 @@ pub is-marked-spec : {M : Type 1} → statement M
 is-marked-spec =
     tie.close
     (tie.spec
-    shared-slice-read-if1
+    (λ c. search needs)
     returns
-    shared-slice-read-if2
+    (λ c. search needs)
     returns-2
-    shared-slice-read-if3
+    (λ c. search needs)
     returns-3
-    pair-requires
+    (λ c κs. search needs)
     returns-4)

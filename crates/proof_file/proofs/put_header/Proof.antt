@@ -1,4 +1,4 @@
--- `proof_file::put_header` meets its contract: seven stores. Assumes nothing.
+-- `proof_file::put_header` meets its contract: seven stores.
 use lib.ListN.{length-set}
 use lib.Seq.{sets-eq}
 use Rattle.proof_file.specs.File.{headerOf}
@@ -6,9 +6,6 @@ use native.Mathlib.Omega.{arith}
 use borrow.Author.Needs.{needs}
 use Rattle.proof_file.proofs.put_header.Statement.{statement}
 use Rattle.proof_file.proofs.put_header.Tie as tie
-
-slice-write-out : tie.Need-slice-write-out
-slice-write-out c = search needs
 
 slice-write-out-2 : tie.Need-slice-write-out-2
 slice-write-out-2 c = simp length-set (omega arith)
@@ -22,20 +19,8 @@ slice-write-out-4 c = simp length-set (omega arith)
 slice-write-out-5 : tie.Need-slice-write-out-5
 slice-write-out-5 c = simp length-set (omega arith)
 
-cast-out : tie.Need-cast-out
-cast-out c = search needs
-
 slice-write-out-6 : tie.Need-slice-write-out-6
 slice-write-out-6 c = simp length-set (omega arith)
-
-cast-out-2 : tie.Need-cast-out-2
-cast-out-2 c = search needs
-
-slice-write-out-7 : tie.Need-slice-write-out-7
-slice-write-out-7 c = search needs
-
-same-length : tie.Need-same-length
-same-length c = search needs
 
 returns : tie.Need-returns
 returns c = sets-eq (headerOf (c .args .count)) (c .args .out .now) 0 (c .pre)
@@ -44,14 +29,14 @@ pub put-header-spec : {M : Type 1} → statement M
 put-header-spec =
     tie.close
     (tie.spec
-    slice-write-out
+    (λ c. search needs)
     slice-write-out-2
     slice-write-out-3
     slice-write-out-4
     slice-write-out-5
-    cast-out
+    (λ c. search needs)
     slice-write-out-6
-    cast-out-2
-    slice-write-out-7
-    same-length
+    (λ c. search needs)
+    (λ c. search needs)
+    (λ c. search needs)
     returns)

@@ -1,28 +1,10 @@
--- `proof_file::read` meets its contract. Assumes nothing.
+-- `proof_file::read` meets its contract.
 use mathlib.Core.Path.{sym, _∙_}
 use Rattle.proof_file.proofs.FileLaws.{readable-long, readable-lines, refused-lines}
 use native.Mathlib.Omega.{arith}
 use borrow.Author.Needs.{needs}
 use Rattle.proof_file.proofs.read.Statement.{statement}
 use Rattle.proof_file.proofs.read.Tie as tie
-
-read-reply-requires : tie.Need-read-reply-requires
-read-reply-requires c κs = search needs
-
-enum-told : tie.Need-enum-told
-enum-told c = search needs
-
-enum-told-2 : tie.Need-enum-told-2
-enum-told-2 c = search needs
-
-sub-result : tie.Need-sub-result
-sub-result c = search needs
-
-part-result-start : tie.Need-part-result-start
-part-result-start c = search needs
-
-part-result-end : tie.Need-part-result-end
-part-result-end c = search needs
 
 returns : tie.Need-returns
 returns c = refused-lines (c .before .before .before .before .before .args .file .now) (c .before .enum-told2 .given .0 .0) (sym (c .before .before .before .read-reply .ensures) ∙ c .before .enum-told2 .given .1)
@@ -33,9 +15,6 @@ sub-result-2 c = omega (arith, readable-long _ (sym (c .before .before .read-rep
 part-result-start-2 : tie.Need-part-result-start-2
 part-result-start-2 c = omega (arith, readable-long _ (sym (c .before .before .read-reply .ensures) ∙ c .enum-told .given .1))
 
-part-result-end-2 : tie.Need-part-result-end-2
-part-result-end-2 c = search needs
-
 returns-2 : tie.Need-returns-2
 returns-2 c = readable-lines (c .before .before .before .before .before .args .file .now) (sym (c .before .before .before .read-reply .ensures) ∙ c .before .enum-told .given .1)
 
@@ -43,14 +22,14 @@ pub read-spec : {M : Type 1} → statement M
 read-spec =
     tie.close
     (tie.spec
-    read-reply-requires
-    enum-told
-    enum-told-2
-    sub-result
-    part-result-start
-    part-result-end
+    (λ c κs. search needs)
+    (λ c. search needs)
+    (λ c. search needs)
+    (λ c. search needs)
+    (λ c. search needs)
+    (λ c. search needs)
     returns
     sub-result-2
     part-result-start-2
-    part-result-end-2
+    (λ c. search needs)
     returns-2)

@@ -1,4 +1,4 @@
--- `proof_file::read_reply` meets its contract. Assumes nothing.
+-- `proof_file::read_reply` meets its contract.
 use borrow.Author.Tests.{lt-ltb, le-ltb, not-true, not-false}
 use Rattle.proof_file.specs.File.{fileRefusal}
 use borrow.Author.Needs.{needs}
@@ -9,15 +9,9 @@ returns : tie.Need-returns
 unfolding fileRefusal
 returns c = rw (lt-ltb _ _ (c .if1 .taken))
 
-is-marked-requires : tie.Need-is-marked-requires
-is-marked-requires c κs = search needs
-
 returns-2 : tie.Need-returns-2
 unfolding fileRefusal
 returns-2 c = rw (le-ltb _ _ (c .before .before .if1 .left), ← c .before .is-marked .ensures, not-true (c .before .is-marked .result) (c .if2 .taken))
-
-is-counted-requires : tie.Need-is-counted-requires
-is-counted-requires c κs = search needs
 
 returns-3 : tie.Need-returns-3
 unfolding fileRefusal
@@ -30,4 +24,4 @@ returns-4 c = rw (le-ltb _ _ (c .before .before .before .before .if1 .left), ←
 pub read-reply-spec : {M : Type 1} → statement M
 read-reply-spec =
     tie.close
-    (tie.spec returns is-marked-requires returns-2 is-counted-requires returns-3 returns-4)
+    (tie.spec returns (λ c κs. search needs) returns-2 (λ c κs. search needs) returns-3 returns-4)

@@ -1,4 +1,4 @@
--- `proof_file::write` meets its contract: refusals 11 and 17, or the header and the lines. Assumes nothing.
+-- `proof_file::write` meets its contract: refusals 11 and 17, or the header and the lines.
 use mathlib.Core.Path.{refl, sym, _∙_}
 use lib.ListN.{length}
 use borrow.Author.Tests.{lt-ltb, le-ltb}
@@ -8,32 +8,14 @@ use borrow.Author.Needs.{needs}
 use Rattle.proof_file.proofs.write.Statement.{statement}
 use Rattle.proof_file.proofs.write.Tie as tie
 
-bad-length-requires : tie.Need-bad-length-requires
-bad-length-requires c κs = search needs
-
 returns : tie.Need-returns
 returns c = rw (← c .before .bad-length .ensures, c .if1 .taken) (refl, refl)
-
-add-if2 : tie.Need-add-if2
-add-if2 c = search needs
 
 returns-2 : tie.Need-returns-2
 returns-2 c = rw (← c .before .before .bad-length .ensures, c .before .if1 .left, lt-ltb _ _ (c .if2 .taken)) (refl, refl)
 
 cast-put-header : tie.Need-cast-put-header
 cast-put-header c = omega (arith, length-whole (length (c .before .before .before .before .before .before .args .lines .now)) (sym (c .before .before .before .bad-length .ensures) ∙ c .before .before .if1 .left) .few)
-
-put-header-requires : tie.Need-put-header-requires
-put-header-requires c κs = search needs
-
-put-lines-requires : tie.Need-put-lines-requires
-put-lines-requires c κs = search needs
-
-add-t6 : tie.Need-add-t6
-add-t6 c = search needs
-
-same-length : tie.Need-same-length
-same-length c = search needs
 
 returns-3 : tie.Need-returns-3
 returns-3 c = let b = c .before .before .before .before .before .before .before in
@@ -45,13 +27,13 @@ pub write-spec : {M : Type 1} → statement M
 write-spec =
     tie.close
     (tie.spec
-    bad-length-requires
+    (λ c κs. search needs)
     returns
-    add-if2
+    (λ c. search needs)
     returns-2
     cast-put-header
-    put-header-requires
-    put-lines-requires
-    add-t6
-    same-length
+    (λ c κs. search needs)
+    (λ c κs. search needs)
+    (λ c. search needs)
+    (λ c. search needs)
     returns-3)

@@ -16,29 +16,11 @@ abbrev μ-loop : tie.MeasureT-loop
 loop-holds : tie.Need-loop-holds Inv-loop μ-loop
 loop-holds c = (search needs, search needs, search needs, shifted-none (c .args .ends .now) (c .args .k))
 
-source-requires : tie.Need-source-requires Inv-loop μ-loop
-source-requires c κs = search needs
-
-element-copy-out-ends : tie.Need-element-copy-out-ends Inv-loop μ-loop
-element-copy-out-ends c = search needs
-
-element-write-ends : tie.Need-element-write-ends Inv-loop μ-loop
-element-write-ends c = search needs
-
-add-i : tie.Need-add-i Inv-loop μ-loop
-add-i c = search needs
-
-loop-less : tie.Need-loop-less Inv-loop μ-loop
-loop-less c = search needs
-
 loop-again : tie.Need-loop-again Inv-loop μ-loop
 loop-again c =
     let s = c .before in
     let b = s .before .before in
     (search needs, search needs, search needs, shifted-more (b .before .args .ends .now) (b .loop .ends) (b .before .args .k) (b .loop .i) (s .source .result) (s .source .ensures) (search needs) (search needs) (b .loop .inv .3))
-
-element-write-ends-2 : tie.Need-element-write-ends-2 Inv-loop μ-loop
-element-write-ends-2 c = search needs
 
 returns : tie.Need-returns Inv-loop μ-loop
 returns c =
@@ -53,11 +35,11 @@ close-ends-spec =
     Inv-loop
     μ-loop
     loop-holds
-    source-requires
-    element-copy-out-ends
-    element-write-ends
-    add-i
-    loop-less
+    (λ c κs. search needs)
+    (λ c. search needs)
+    (λ c. search needs)
+    (λ c. search needs)
+    (λ c. search needs)
     loop-again
-    element-write-ends-2
+    (λ c. search needs)
     returns)

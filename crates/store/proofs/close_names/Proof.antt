@@ -16,35 +16,11 @@ abbrev μ-loop : tie.MeasureT-loop
 loop-holds : tie.Need-loop-holds Inv-loop μ-loop
 loop-holds c = (search needs, search needs, search needs, shifted-none (c .args .names .now) (c .args .k))
 
-source-requires : tie.Need-source-requires Inv-loop μ-loop
-source-requires c κs = search needs
-
-mul-names : tie.Need-mul-names Inv-loop μ-loop
-mul-names c = search needs
-
-element-copy-out-names : tie.Need-element-copy-out-names Inv-loop μ-loop
-element-copy-out-names c = search needs
-
-mul-names-2 : tie.Need-mul-names-2 Inv-loop μ-loop
-mul-names-2 c = search needs
-
-element-write-names : tie.Need-element-write-names Inv-loop μ-loop
-element-write-names c = search needs
-
-add-i : tie.Need-add-i Inv-loop μ-loop
-add-i c = search needs
-
-loop-less : tie.Need-loop-less Inv-loop μ-loop
-loop-less c = search needs
-
 loop-again : tie.Need-loop-again Inv-loop μ-loop
 loop-again c =
     let s = c .before in
     let b = s .before .before in
     (search needs, search needs, search needs, shifted-more (b .before .args .names .now) (b .loop .names) (b .before .args .k) (b .loop .i) (s .source .result) (s .source .ensures) (search needs) (search needs) (b .loop .inv .3))
-
-element-write-names-2 : tie.Need-element-write-names-2 Inv-loop μ-loop
-element-write-names-2 c = search needs
 
 returns : tie.Need-returns Inv-loop μ-loop
 returns c =
@@ -59,13 +35,13 @@ close-names-spec =
     Inv-loop
     μ-loop
     loop-holds
-    source-requires
-    mul-names
-    element-copy-out-names
-    mul-names-2
-    element-write-names
-    add-i
-    loop-less
+    (λ c κs. search needs)
+    (λ c. search needs)
+    (λ c. search needs)
+    (λ c. search needs)
+    (λ c. search needs)
+    (λ c. search needs)
+    (λ c. search needs)
     loop-again
-    element-write-names-2
+    (λ c. search needs)
     returns)

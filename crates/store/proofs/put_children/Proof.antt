@@ -19,28 +19,10 @@ abbrev μ-loop : tie.MeasureT-loop
 loop-holds : tie.Need-loop-holds Inv-loop μ-loop
 loop-holds c = (search needs, search needs, paste-zero (c .args .child .now) (c .args .at) (c .args .children .now))
 
-mul-child : tie.Need-mul-child Inv-loop μ-loop
-mul-child c = search needs
-
-shared-slice-read-child : tie.Need-shared-slice-read-child Inv-loop μ-loop
-shared-slice-read-child c = search needs
-
 cast-child : tie.Need-cast-child Inv-loop μ-loop
 cast-child c =
     let b = c .before .before in
     omega (arith, below-each 256 (b .before .args .children .now) (b .before .pre .2) (b .loop .i) (search needs))
-
-add-child : tie.Need-add-child Inv-loop μ-loop
-add-child c = search needs
-
-element-write-child : tie.Need-element-write-child Inv-loop μ-loop
-element-write-child c = search needs
-
-add-i : tie.Need-add-i Inv-loop μ-loop
-add-i c = search needs
-
-loop-less : tie.Need-loop-less Inv-loop μ-loop
-loop-less c = search needs
 
 loop-again : tie.Need-loop-again Inv-loop μ-loop
 loop-again c =
@@ -67,12 +49,12 @@ put-children-spec =
     Inv-loop
     μ-loop
     loop-holds
-    mul-child
-    shared-slice-read-child
+    (λ c. search needs)
+    (λ c. search needs)
     cast-child
-    add-child
-    element-write-child
-    add-i
-    loop-less
+    (λ c. search needs)
+    (λ c. search needs)
+    (λ c. search needs)
+    (λ c. search needs)
     loop-again
     returns)

@@ -7,21 +7,6 @@ use Rattle.store.proofs.Equations.put.Tie as tie
 full : (s : tie.Start) → Full (s .args .t1)
 full s = record { names = search needs; lefts = search needs; rights = search needs }
 
-mul-self : tie.Need-mul-self
-mul-self c = search needs
-
-element-write-self : tie.Need-element-write-self
-element-write-self c = search needs
-
-element-write-self-2 : tie.Need-element-write-self-2
-element-write-self-2 c = search needs
-
-element-write-self-3 : tie.Need-element-write-self-3
-element-write-self-3 c = search needs
-
-add-self : tie.Need-add-self
-add-self c = search needs
-
 returns : tie.Need-returns
 returns c =
     puts-equation (c .args .t1) (c .args .name) (c .args .left) (c .args .right) (full c) (c .pre) _ _ _ (omega arith) (omega arith) (omega arith)
@@ -30,9 +15,9 @@ pub put-spec : {M : Type 1} → statement M
 put-spec =
     tie.close
     (tie.spec
-    mul-self
-    element-write-self
-    element-write-self-2
-    element-write-self-3
-    add-self
+    (λ c. search needs)
+    (λ c. search needs)
+    (λ c. search needs)
+    (λ c. search needs)
+    (λ c. search needs)
     returns)

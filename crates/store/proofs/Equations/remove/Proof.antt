@@ -4,21 +4,6 @@ use borrow.Author.Needs.{needs}
 use Rattle.store.proofs.Equations.remove.Statement.{statement}
 use Rattle.store.proofs.Equations.remove.Tie as tie
 
-find-requires : tie.Need-find-requires
-find-requires c κs = search needs
-
-close-names-requires : tie.Need-close-names-requires
-close-names-requires c κs = search needs
-
-close-ends-requires : tie.Need-close-ends-requires
-close-ends-requires c κs = search needs
-
-close-ends-requires-2 : tie.Need-close-ends-requires-2
-close-ends-requires-2 c κs = search needs
-
-sub-self : tie.Need-sub-self
-sub-self c = search needs
-
 returns : tie.Need-returns
 returns c =
     let t = c .before .before .before .before .before .before in
@@ -37,10 +22,10 @@ pub remove-spec : {M : Type 1} → statement M
 remove-spec =
     tie.close
     (tie.spec
-    find-requires
-    close-names-requires
-    close-ends-requires
-    close-ends-requires-2
-    sub-self
+    (λ c κs. search needs)
+    (λ c κs. search needs)
+    (λ c κs. search needs)
+    (λ c κs. search needs)
+    (λ c. search needs)
     returns
     returns-2)

@@ -12,49 +12,19 @@ Inv-loop tally₀ proof₀ now₀ name₀ tally proof now name = (length tally �
 abbrev μ-loop : tie.MeasureT-loop
 μ-loop tally₀ proof₀ now₀ name₀ tally proof now name = 8 - name
 
-declared-requires : tie.Need-declared-requires Inv-loop μ-loop
-declared-requires c κs = search needs
-
-loop-holds : tie.Need-loop-holds Inv-loop μ-loop
-loop-holds c = search needs
-
-equate-requires : tie.Need-equate-requires Inv-loop μ-loop
-equate-requires c κs = search needs
-
-compare-requires : tie.Need-compare-requires Inv-loop μ-loop
-compare-requires c κs = search needs
-
-add-name : tie.Need-add-name Inv-loop μ-loop
-add-name c = search needs
-
-loop-less : tie.Need-loop-less Inv-loop μ-loop
-loop-less c = search needs
-
-loop-again : tie.Need-loop-again Inv-loop μ-loop
-loop-again c = search needs
-
-same-length : tie.Need-same-length Inv-loop μ-loop
-same-length c = search needs
-
-same-length-2 : tie.Need-same-length-2 Inv-loop μ-loop
-same-length-2 c = search needs
-
-returns : tie.Need-returns Inv-loop μ-loop
-returns c = search needs
-
 pub round-spec : {M : Type 1} → statement M
 round-spec =
     tie.close
     (tie.spec
     Inv-loop
     μ-loop
-    declared-requires
-    loop-holds
-    equate-requires
-    compare-requires
-    add-name
-    loop-less
-    loop-again
-    same-length
-    same-length-2
-    returns)
+    (λ c κs. search needs)
+    (λ c. search needs)
+    (λ c κs. search needs)
+    (λ c κs. search needs)
+    (λ c. search needs)
+    (λ c. search needs)
+    (λ c. search needs)
+    (λ c. search needs)
+    (λ c. search needs)
+    (λ c. search needs))

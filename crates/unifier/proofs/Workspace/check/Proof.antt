@@ -1,4 +1,4 @@
--- `Workspace::check` meets its contract. Assumes nothing.
+-- `Workspace::check` meets its contract.
 use borrow.Author.Needs.{needs}
 use Rattle.unifier.specs.Replies.{goalOf, offerOf}
 use Rattle.unifier.proofs.Laws.{solved-valid, not-valid}
@@ -6,17 +6,11 @@ use Rattle.unifier.proofs.AskLaws.{check-no-workspace}
 use Rattle.unifier.proofs.Workspace.check.Statement.{statement}
 use Rattle.unifier.proofs.Workspace.check.Tie as tie
 
-examined-requires : tie.Need-examined-requires
-examined-requires c κs = search needs
-
 check-in-requires : tie.Need-check-in-requires
 check-in-requires c κs = solved-valid _ _ _ _ (c .before .examined .ensures .holds (c .if1 .taken))
 
 returns : tie.Need-returns
 returns c = c .check-in .ensures
-
-refuse-check-requires : tie.Need-refuse-check-requires
-refuse-check-requires c κs = search needs
 
 returns-2 : tie.Need-returns-2
 returns-2 c =
@@ -27,4 +21,4 @@ returns-2 c =
 pub check-spec : {M : Type 1} → statement M
 check-spec =
     tie.close
-    (tie.spec examined-requires check-in-requires returns refuse-check-requires returns-2)
+    (tie.spec (λ c κs. search needs) check-in-requires returns (λ c κs. search needs) returns-2)

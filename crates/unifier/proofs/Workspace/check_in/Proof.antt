@@ -1,4 +1,4 @@
--- `Workspace::check_in` meets its contract. Assumes nothing.
+-- `Workspace::check_in` meets its contract.
 use borrow.Author.Needs.{needs}
 use mathlib.Core.Path.{sym, _∙_}
 use Rattle.unifier.specs.declared.CheckReply.the-variants.{Refused}
@@ -7,15 +7,6 @@ use Rattle.unifier.proofs.CheckLaws.{check-offer, check-goal, check-nam
 use Rattle.unifier.proofs.AskLaws.{check-replied}
 use Rattle.unifier.proofs.Workspace.check_in.Statement.{statement}
 use Rattle.unifier.proofs.Workspace.check_in.Tie as tie
-
-offer-below-requires : tie.Need-offer-below-requires
-offer-below-requires c κs = search needs
-
-goal-below-requires : tie.Need-goal-below-requires
-goal-below-requires c κs = search needs
-
-offer-new-requires : tie.Need-offer-new-requires
-offer-new-requires c κs = search needs
 
 judge-requires : tie.Need-judge-requires
 judge-requires c κs =
@@ -32,9 +23,6 @@ judge-requires c κs =
 returns : tie.Need-returns
 returns c = c .judge .ensures
 
-refuse-check-requires : tie.Need-refuse-check-requires
-refuse-check-requires c κs = search needs
-
 returns-2 : tie.Need-returns-2
 returns-2 c =
     let n = c .before .before in
@@ -46,9 +34,6 @@ returns-2 c =
     (check-replied (a .self) (offerOf (a .offer)) (goalOf (a .goal)) (a .lines .now) (s .pre) (Refused 6)
     (check-name (a .self) (offerOf (a .offer)) (goalOf (a .goal)) (a .lines .now) (sym (o .offer-below .ensures) ∙ g .before .if1 .taken) (sym (g .goal-below .ensures) ∙ n .before .if2 .taken) (sym (n .offer-new .ensures) ∙ c .before .if3 .left)))
 
-refuse-check-requires-2 : tie.Need-refuse-check-requires-2
-refuse-check-requires-2 c κs = search needs
-
 returns-3 : tie.Need-returns-3
 returns-3 c =
     let g = c .before .before in
@@ -58,9 +43,6 @@ returns-3 c =
     rw (c .refuse-check2 .ensures)
     (check-replied (a .self) (offerOf (a .offer)) (goalOf (a .goal)) (a .lines .now) (s .pre) (Refused 4)
     (check-goal (a .self) (offerOf (a .offer)) (goalOf (a .goal)) (a .lines .now) (sym (o .offer-below .ensures) ∙ g .before .if1 .taken) (sym (g .goal-below .ensures) ∙ c .before .if2 .left)))
-
-refuse-check-requires-3 : tie.Need-refuse-check-requires-3
-refuse-check-requires-3 c κs = search needs
 
 returns-4 : tie.Need-returns-4
 returns-4 c =
@@ -75,14 +57,14 @@ pub check-in-spec : {M : Type 1} → statement M
 check-in-spec =
     tie.close
     (tie.spec
-    offer-below-requires
-    goal-below-requires
-    offer-new-requires
+    (λ c κs. search needs)
+    (λ c κs. search needs)
+    (λ c κs. search needs)
     judge-requires
     returns
-    refuse-check-requires
+    (λ c κs. search needs)
     returns-2
-    refuse-check-requires-2
+    (λ c κs. search needs)
     returns-3
-    refuse-check-requires-3
+    (λ c κs. search needs)
     returns-4)

@@ -1,28 +1,16 @@
--- `Workspace::class_in` meets its contract. Assumes nothing.
+-- `Workspace::class_in` meets its contract.
 use native.Mathlib.Omega.{arith}
 use borrow.Author.Needs.{needs}
-use Rattle.classes.specs.Table.{class}
+use Rattle.solve_classes.specs.Table.{class}
 use Rattle.unifier.proofs.ClassLaws.{size-small, low-small, told}
 use Rattle.unifier.proofs.AskLaws.{class-unknown}
 use Rattle.unifier.proofs.Workspace.class_in.Statement.{statement}
 use Rattle.unifier.proofs.Workspace.class_in.Tie as tie
 
-refuse-class-requires : tie.Need-refuse-class-requires
-refuse-class-requires c κs = search needs
-
 returns : tie.Need-returns
 returns c =
     let s = c .before .before .before in
     rw (c .refuse-class .ensures) (class-unknown (s .args .self) (s .args .u) (s .pre .valid) (omega (arith, c .before .if1 .taken)))
-
-array-read-c : tie.Need-array-read-c
-array-read-c c = search needs
-
-lowest-requires : tie.Need-lowest-requires
-lowest-requires c κs = search needs
-
-size-requires : tie.Need-size-requires
-size-requires c κs = search needs
 
 cast-t14 : tie.Need-cast-t14
 cast-t14 c =
@@ -45,11 +33,11 @@ pub class-in-spec : {M : Type 1} → statement M
 class-in-spec =
     tie.close
     (tie.spec
-    refuse-class-requires
+    (λ c κs. search needs)
     returns
-    array-read-c
-    lowest-requires
-    size-requires
+    (λ c. search needs)
+    (λ c κs. search needs)
+    (λ c κs. search needs)
     cast-t14
     cast-t16
     returns-2)

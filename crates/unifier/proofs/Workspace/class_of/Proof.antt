@@ -1,21 +1,15 @@
--- `Workspace::class_of` meets its contract. Assumes nothing.
+-- `Workspace::class_of` meets its contract.
 use borrow.Author.Needs.{needs}
 use Rattle.unifier.proofs.Laws.{solved-classed, not-valid}
 use Rattle.unifier.proofs.AskLaws.{class-no-workspace}
 use Rattle.unifier.proofs.Workspace.class_of.Statement.{statement}
 use Rattle.unifier.proofs.Workspace.class_of.Tie as tie
 
-examined-requires : tie.Need-examined-requires
-examined-requires c κs = search needs
-
 class-in-requires : tie.Need-class-in-requires
 class-in-requires c κs = solved-classed _ _ _ _ (c .before .before .examined .ensures .holds (c .before .if1 .taken))
 
 returns : tie.Need-returns
 returns c = c .class-in .ensures
-
-refuse-class-requires : tie.Need-refuse-class-requires
-refuse-class-requires c κs = search needs
 
 returns-2 : tie.Need-returns-2
 returns-2 c =
@@ -26,4 +20,4 @@ returns-2 c =
 pub class-of-spec : {M : Type 1} → statement M
 class-of-spec =
     tie.close
-    (tie.spec examined-requires class-in-requires returns refuse-class-requires returns-2)
+    (tie.spec (λ c κs. search needs) class-in-requires returns (λ c κs. search needs) returns-2)

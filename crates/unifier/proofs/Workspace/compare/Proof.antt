@@ -1,24 +1,15 @@
--- `Workspace::compare` meets its contract. Assumes nothing.
+-- `Workspace::compare` meets its contract.
 use borrow.Author.Needs.{needs}
 use Rattle.unifier.proofs.Laws.{not-valid}
 use Rattle.unifier.proofs.AskLaws.{compare-no-workspace}
 use Rattle.unifier.proofs.Workspace.compare.Statement.{statement}
 use Rattle.unifier.proofs.Workspace.compare.Tie as tie
 
-examined-requires : tie.Need-examined-requires
-examined-requires c κs = search needs
-
 compare-in-requires : tie.Need-compare-in-requires
 compare-in-requires c κs = c .before .before .before .before .examined .ensures .holds (c .before .before .before .if1 .taken)
 
-same-length : tie.Need-same-length
-same-length c = search needs
-
 returns : tie.Need-returns
 returns c = c .before .before .compare-in .ensures
-
-refuse-comparison-requires : tie.Need-refuse-comparison-requires
-refuse-comparison-requires c κs = search needs
 
 returns-2 : tie.Need-returns-2
 returns-2 c =
@@ -30,9 +21,9 @@ pub compare-spec : {M : Type 1} → statement M
 compare-spec =
     tie.close
     (tie.spec
-    examined-requires
+    (λ c κs. search needs)
     compare-in-requires
-    same-length
+    (λ c. search needs)
     returns
-    refuse-comparison-requires
+    (λ c κs. search needs)
     returns-2)

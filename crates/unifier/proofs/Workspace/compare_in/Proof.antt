@@ -1,4 +1,4 @@
--- `Workspace::compare_in` meets its contract. Assumes nothing.
+-- `Workspace::compare_in` meets its contract.
 use native.Mathlib.Omega.{arith}
 use borrow.Author.Needs.{needs}
 use Rattle.unifier.proofs.Laws.{solved-valid}
@@ -6,26 +6,17 @@ use Rattle.unifier.proofs.CompareLaws.{refused-short, refused-left, ref
 use Rattle.unifier.proofs.Workspace.compare_in.Statement.{statement}
 use Rattle.unifier.proofs.Workspace.compare_in.Tie as tie
 
-refuse-comparison-requires : tie.Need-refuse-comparison-requires
-refuse-comparison-requires c κs = search needs
-
 returns : tie.Need-returns
 returns c =
     let s = c .before .before .before in
     let a = s .args in
     rw (c .refuse-comparison .ensures) (refused-short (a .self) (a .u) (a .v) (a .proof .now) (solved-valid _ _ _ _ (s .pre)) (omega (arith, c .before .if1 .taken)))
 
-refuse-comparison-requires-2 : tie.Need-refuse-comparison-requires-2
-refuse-comparison-requires-2 c κs = search needs
-
 returns-2 : tie.Need-returns-2
 returns-2 c =
     let s = c .before .before .before .before .before in
     let a = s .args in
     rw (c .refuse-comparison2 .ensures) (refused-left (a .self) (a .u) (a .v) (a .proof .now) (solved-valid _ _ _ _ (s .pre)) (c .before .before .before .if1 .left) (omega (arith, c .before .if2 .taken)))
-
-refuse-comparison-requires-3 : tie.Need-refuse-comparison-requires-3
-refuse-comparison-requires-3 c κs = search needs
 
 returns-3 : tie.Need-returns-3
 returns-3 c =
@@ -36,9 +27,6 @@ returns-3 c =
 stand-requires : tie.Need-stand-requires
 stand-requires c κs = record { solved = c .before .before .before .before .before .before .pre; left-known = omega (arith, c .before .before .if2 .left); right-known = omega (arith, c .before .if3 .left); room = omega (arith, c .before .before .before .before .if1 .left) }
 
-same-length : tie.Need-same-length
-same-length c = search needs
-
 returns-4 : tie.Need-returns-4
 returns-4 c = c .before .before .stand .ensures
 
@@ -46,12 +34,12 @@ pub compare-in-spec : {M : Type 1} → statement M
 compare-in-spec =
     tie.close
     (tie.spec
-    refuse-comparison-requires
+    (λ c κs. search needs)
     returns
-    refuse-comparison-requires-2
+    (λ c κs. search needs)
     returns-2
-    refuse-comparison-requires-3
+    (λ c κs. search needs)
     returns-3
     stand-requires
-    same-length
+    (λ c. search needs)
     returns-4)

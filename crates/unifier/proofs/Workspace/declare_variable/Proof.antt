@@ -1,4 +1,4 @@
--- `Workspace::declare_variable` meets its contract. Assumes nothing.
+-- `Workspace::declare_variable` meets its contract.
 use borrow.Author.Needs.{needs}
 use Rattle.graph.specs.State.{variable}
 use Rattle.graph.specs.Book.{declare}
@@ -6,17 +6,11 @@ use Rattle.unifier.proofs.Laws.{solved-valid, not-valid, no-workspace}
 use Rattle.unifier.proofs.Workspace.declare_variable.Statement.{statement}
 use Rattle.unifier.proofs.Workspace.declare_variable.Tie as tie
 
-examined-requires : tie.Need-examined-requires
-examined-requires c κs = search needs
-
 put-variable-requires : tie.Need-put-variable-requires
 put-variable-requires c κs = solved-valid _ _ _ _ (c .before .examined .ensures .holds (c .if1 .taken))
 
 returns : tie.Need-returns
 returns c = c .put-variable .ensures
-
-refuse-requires : tie.Need-refuse-requires
-refuse-requires c κs = search needs
 
 returns-2 : tie.Need-returns-2
 returns-2 c =
@@ -25,4 +19,4 @@ returns-2 c =
 
 pub declare-variable-spec : {M : Type 1} → statement M
 declare-variable-spec =
-    tie.close (tie.spec examined-requires put-variable-requires returns refuse-requires returns-2)
+    tie.close (tie.spec (λ c κs. search needs) put-variable-requires returns (λ c κs. search needs) returns-2)

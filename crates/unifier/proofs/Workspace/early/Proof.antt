@@ -1,4 +1,4 @@
--- `Workspace::early` meets its contract. Assumes nothing.
+-- `Workspace::early` meets its contract.
 use native.Mathlib.Omega.{arith}
 use borrow.Author.Needs.{needs}
 use Rattle.graph.specs.State.{equationOf}
@@ -23,9 +23,6 @@ returns-3 c =
     let l = c .before .before .before in
     let a = l .before .args in
     early-right (a .self) (equationOf (a .name) (a .left) (a .right)) (a .room) (l .if1 .left) (c .before .if2 .left) (omega (arith, c .if3 .taken))
-
-find-requires : tie.Need-find-requires
-find-requires c κs = search needs
 
 returns-4 : tie.Need-returns-4
 returns-4 c =
@@ -56,4 +53,4 @@ returns-6 c =
 
 pub early-spec : {M : Type 1} → statement M
 early-spec =
-    tie.close (tie.spec returns returns-2 returns-3 find-requires returns-4 returns-5 returns-6)
+    tie.close (tie.spec returns returns-2 returns-3 (λ c κs. search needs) returns-4 returns-5 returns-6)

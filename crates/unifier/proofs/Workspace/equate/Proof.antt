@@ -1,18 +1,12 @@
--- `Workspace::equate` meets its contract. Assumes nothing.
+-- `Workspace::equate` meets its contract.
 use borrow.Author.Needs.{needs}
 use Rattle.graph.specs.State.{equationOf}
 use Rattle.unifier.proofs.Laws.{solved-valid, not-valid, equate-no-workspace, equate-early}
 use Rattle.unifier.proofs.Workspace.equate.Statement.{statement}
 use Rattle.unifier.proofs.Workspace.equate.Tie as tie
 
-examined-requires : tie.Need-examined-requires
-examined-requires c κs = search needs
-
 early-requires : tie.Need-early-requires
 early-requires c κs = solved-valid _ _ _ _ (c .before .examined .ensures .holds (c .if1 .taken))
-
-refuse-requires : tie.Need-refuse-requires
-refuse-requires c κs = search needs
 
 returns : tie.Need-returns
 returns c =
@@ -28,14 +22,8 @@ offer-requires c κs =
     let y = c .before .before .before .before in
     record { solved = y .before .before .examined .ensures .holds (y .before .if1 .taken); past = y .early .ensures .passed (c .before .before .before .if2 .left) }
 
-same-length : tie.Need-same-length
-same-length c = search needs
-
 returns-2 : tie.Need-returns-2
 returns-2 c = c .before .before .offer .ensures
-
-refuse-requires-2 : tie.Need-refuse-requires-2
-refuse-requires-2 c κs = search needs
 
 returns-3 : tie.Need-returns-3
 returns-3 c =
@@ -47,12 +35,12 @@ pub equate-spec : {M : Type 1} → statement M
 equate-spec =
     tie.close
     (tie.spec
-    examined-requires
+    (λ c κs. search needs)
     early-requires
-    refuse-requires
+    (λ c κs. search needs)
     returns
     offer-requires
-    same-length
+    (λ c. search needs)
     returns-2
-    refuse-requires-2
+    (λ c κs. search needs)
     returns-3)

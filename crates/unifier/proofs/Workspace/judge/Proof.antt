@@ -1,9 +1,9 @@
--- `Workspace::judge` meets its contract: the checker's answer is the reply. Assumes nothing.
+-- `Workspace::judge` meets its contract: the checker's answer is the reply.
 use mathlib.Core.Path.{ap₂, _∙_}
 use Rattle.graph.specs.State.{State}
 use Rattle.graph.specs.Goals.{Goal}
-use Rattle.claims.proofs.FitLaws.{shape-fit}
-use Rattle.checker.specs.Answers.{answerTo}
+use Rattle.proof_claims.proofs.FitLaws.{shape-fit}
+use Rattle.proof_check.specs.Answers.{answerTo}
 use Rattle.unifier.specs.Views.{stateOf}
 use Rattle.unifier.specs.Replies.{goalOf, offerOf}
 use Rattle.unifier.proofs.CheckLaws.{offer-small, goal-small, reported, check-judged}

@@ -1,4 +1,4 @@
--- `Workspace::offer` meets its contract: by cases on the response. Assumes nothing.
+-- `Workspace::offer` meets its contract: by cases on the response.
 use native.Mathlib.Omega.{arith}
 use borrow.Author.Needs.{needs}
 use Rattle.graph.specs.State.{equationOf}
@@ -31,18 +31,6 @@ offer-parts-requires c κs =
     let a = s .args in
     (asked (a .self) (equationOf (a .name) (a .left) (a .right)) (a .proof .now) (a .table) (a .trace .now) (a .steps) (s .pre) (p .put .result) (p .put .ensures), offering-room (a .self) (equationOf (a .name) (a .left) (a .right)) (a .proof .now) (a .table) (a .trace .now) (a .steps) (s .pre))
 
-enum-told : tie.Need-enum-told
-enum-told c = search needs
-
-enum-known-r : tie.Need-enum-known-r
-enum-known-r c = search needs
-
-enum-known-r-2 : tie.Need-enum-known-r-2
-enum-known-r-2 c = search needs
-
-same-length : tie.Need-same-length
-same-length c = search needs
-
 returns : tie.Need-returns
 returns c =
     let o = c .before .before .before .before in
@@ -51,9 +39,6 @@ returns c =
     let a = s .args in
     offer-held (a .self) (equationOf (a .name) (a .left) (a .right)) (a .proof .now) (a .table) (a .trace .now) (a .steps) (s .pre) (p .put .result) (p .put .ensures) _ (o .offer-parts .result) (o .offer-parts .ensures) (c .enum-told .given .1)
 
-same-length-2 : tie.Need-same-length-2
-same-length-2 c = search needs
-
 returns-2 : tie.Need-returns-2
 returns-2 c =
     let o = c .before .before .before .before .before in
@@ -61,9 +46,6 @@ returns-2 c =
     let s = p .before .before .before .before in
     let a = s .args in
     offer-clash (a .self) (equationOf (a .name) (a .left) (a .right)) (a .proof .now) (a .table) (a .trace .now) (a .steps) (s .pre) (p .put .result) (p .put .ensures) _ (o .offer-parts .result) (o .offer-parts .ensures) _ (c .before .r .given .1)
-
-same-length-3 : tie.Need-same-length-3
-same-length-3 c = search needs
 
 returns-3 : tie.Need-returns-3
 returns-3 c =
@@ -81,12 +63,12 @@ offer-spec =
     cast-y
     put-requires
     offer-parts-requires
-    enum-told
-    enum-known-r
-    enum-known-r-2
-    same-length
+    (λ c. search needs)
+    (λ c. search needs)
+    (λ c. search needs)
+    (λ c. search needs)
     returns
-    same-length-2
+    (λ c. search needs)
     returns-2
-    same-length-3
+    (λ c. search needs)
     returns-3)

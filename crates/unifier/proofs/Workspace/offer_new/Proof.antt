@@ -1,20 +1,8 @@
--- `Workspace::offer_new` meets its contract: by cases on the offer. Assumes nothing.
+-- `Workspace::offer_new` meets its contract: by cases on the offer.
 use borrow.Author.Needs.{needs}
 use Rattle.unifier.proofs.CheckLaws.{name-new}
 use Rattle.unifier.proofs.Workspace.offer_new.Statement.{statement}
 use Rattle.unifier.proofs.Workspace.offer_new.Tie as tie
-
-enum-told : tie.Need-enum-told
-enum-told c = search needs
-
-enum-known-offer : tie.Need-enum-known-offer
-enum-known-offer c = search needs
-
-find-requires : tie.Need-find-requires
-find-requires c κs = search needs
-
-returns : tie.Need-returns
-returns c = search needs
 
 returns-2 : tie.Need-returns-2
 returns-2 c =
@@ -23,4 +11,4 @@ returns-2 c =
     name-new (a .self) (a .offer) _ _ _ (c .find .result) (o .offer .given .1) (c .find .ensures)
 
 pub offer-new-spec : {M : Type 1} → statement M
-offer-new-spec = tie.close (tie.spec enum-told enum-known-offer find-requires returns returns-2)
+offer-new-spec = tie.close (tie.spec (λ c. search needs) (λ c. search needs) (λ c κs. search needs) (λ c. search needs) returns-2)

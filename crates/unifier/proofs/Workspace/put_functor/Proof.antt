@@ -1,4 +1,4 @@
--- `Workspace::put_functor` meets its contract. Assumes nothing.
+-- `Workspace::put_functor` meets its contract.
 use native.Mathlib.Omega.{arith}
 use borrow.Author.Needs.{needs}
 use mathlib.Core.Path.{sym, _∙_}
@@ -7,17 +7,11 @@ use Rattle.unifier.proofs.Laws.{refused-full, refused-many, refused-unk
 use Rattle.unifier.proofs.Workspace.put_functor.Statement.{statement}
 use Rattle.unifier.proofs.Workspace.put_functor.Tie as tie
 
-refuse-requires : tie.Need-refuse-requires
-refuse-requires c κs = search needs
-
 returns : tie.Need-returns
 returns c =
     let s = c .before .before .before .before in
     let a = s .args in
     rw (c .refuse .ensures) (refused-full (a .self) (functor (a .symbol) (a .children .now)) (s .pre) (omega (arith, c .before .if1 .taken)))
-
-refuse-requires-2 : tie.Need-refuse-requires-2
-refuse-requires-2 c κs = search needs
 
 returns-2 : tie.Need-returns-2
 returns-2 c =
@@ -25,17 +19,8 @@ returns-2 c =
     let a = s .args in
     rw (c .refuse2 .ensures) (refused-many (a .self) (a .symbol) (a .children .now) (omega (arith, c .before .before .if1 .left)) (s .pre) (omega (arith, c .before .if2 .taken)))
 
-cast-all-below : tie.Need-cast-all-below
-cast-all-below c = search needs
-
-all-below-requires : tie.Need-all-below-requires
-all-below-requires c κs = search needs
-
 put-functor-requires : tie.Need-put-functor-requires
 put-functor-requires c κs = record { room = search needs; few = search needs; known = sym (c .before .all-below .ensures) ∙ c .if3 .taken }
-
-cast-t11 : tie.Need-cast-t11
-cast-t11 c = search needs
 
 returns-3 : tie.Need-returns-3
 returns-3 c =
@@ -46,9 +31,6 @@ returns-3 c =
     let h = s .pre .shape .terms in
     declared (a .self) (functor (a .symbol) (a .children .now)) (s .pre) (c .put-functor .result) (p .nodes h) (p .count) (p .shape h)
     (functor-early (a .self) (a .symbol) (a .children .now) (k .before .before .if1 .left) (k .before .if2 .left) (sym (k .all-below .ensures) ∙ c .before .if3 .taken))
-
-refuse-requires-3 : tie.Need-refuse-requires-3
-refuse-requires-3 c κs = search needs
 
 returns-4 : tie.Need-returns-4
 returns-4 c =
@@ -62,14 +44,14 @@ pub put-functor-spec : {M : Type 1} → statement M
 put-functor-spec =
     tie.close
     (tie.spec
-    refuse-requires
+    (λ c κs. search needs)
     returns
-    refuse-requires-2
+    (λ c κs. search needs)
     returns-2
-    cast-all-below
-    all-below-requires
+    (λ c. search needs)
+    (λ c κs. search needs)
     put-functor-requires
-    cast-t11
+    (λ c. search needs)
     returns-3
-    refuse-requires-3
+    (λ c κs. search needs)
     returns-4)

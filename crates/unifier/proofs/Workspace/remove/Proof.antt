@@ -1,12 +1,9 @@
--- `Workspace::remove` meets its contract. Assumes nothing.
+-- `Workspace::remove` meets its contract.
 use borrow.Author.Needs.{needs}
 use mathlib.Core.Path.{sym, _∙_}
 use Rattle.unifier.proofs.Laws.{gone, not-held}
 use Rattle.unifier.proofs.Workspace.remove.Statement.{statement}
 use Rattle.unifier.proofs.Workspace.remove.Tie as tie
-
-remove-requires : tie.Need-remove-requires
-remove-requires c κs = search needs
 
 returns : tie.Need-returns
 returns c =
@@ -15,9 +12,6 @@ returns c =
     let p = r .remove .ensures in
     gone (s .args .self) (s .args .name) (s .pre) (r .remove .result .equations) (sym (p .found) ∙ c .before .if1 .taken) (p .held) (p .shape _ (s .pre .shape .equations))
 
-refuse-requires : tie.Need-refuse-requires
-refuse-requires c κs = search needs
-
 returns-2 : tie.Need-returns-2
 returns-2 c =
     let r = c .before .before in
@@ -25,4 +19,4 @@ returns-2 c =
     rw (c .refuse .ensures) (not-held (s .args .self) (s .args .name) (s .pre) (sym (r .remove .ensures .found) ∙ c .before .if1 .left))
 
 pub remove-spec : {M : Type 1} → statement M
-remove-spec = tie.close (tie.spec remove-requires returns refuse-requires returns-2)
+remove-spec = tie.close (tie.spec (λ c κs. search needs) returns (λ c κs. search needs) returns-2)

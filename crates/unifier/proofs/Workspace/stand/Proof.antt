@@ -1,35 +1,14 @@
--- `Workspace::stand` meets its contract: by cases on the standing. Assumes nothing.
+-- `Workspace::stand` meets its contract: by cases on the standing.
 use borrow.Author.Needs.{needs}
 use Rattle.unifier.proofs.CompareLaws.{known, told-same, told-below, told-above, told-apart}
 use Rattle.unifier.proofs.Workspace.stand.Statement.{statement}
 use Rattle.unifier.proofs.Workspace.stand.Tie as tie
-
-cast-stand-parts : tie.Need-cast-stand-parts
-cast-stand-parts c = search needs
-
-cast-stand-parts-2 : tie.Need-cast-stand-parts-2
-cast-stand-parts-2 c = search needs
 
 stand-parts-requires : tie.Need-stand-parts-requires
 stand-parts-requires c κs =
     let s = c .before .before .before .before in
     let a = s .args in
     (known (a .self) (a .u) (a .v) (a .proof .now) (a .table) (a .trace .now) (a .steps) (s .pre), s .pre .room)
-
-enum-known-s : tie.Need-enum-known-s
-enum-known-s c = search needs
-
-enum-known-s-2 : tie.Need-enum-known-s-2
-enum-known-s-2 c = search needs
-
-enum-known-s-3 : tie.Need-enum-known-s-3
-enum-known-s-3 c = search needs
-
-enum-told : tie.Need-enum-told
-enum-told c = search needs
-
-same-length : tie.Need-same-length
-same-length c = search needs
 
 returns : tie.Need-returns
 returns c =
@@ -38,9 +17,6 @@ returns c =
     let a = s .args in
     told-same (a .self) (a .u) (a .v) (a .proof .now) (a .table) (a .trace .now) (a .steps) (s .pre) _ (o .stand-parts .result) (o .stand-parts .ensures) _ (c .before .s .given .1)
 
-same-length-2 : tie.Need-same-length-2
-same-length-2 c = search needs
-
 returns-2 : tie.Need-returns-2
 returns-2 c =
     let o = c .before .before .before .before .before in
@@ -48,18 +24,12 @@ returns-2 c =
     let a = s .args in
     told-below (a .self) (a .u) (a .v) (a .proof .now) (a .table) (a .trace .now) (a .steps) (s .pre) _ (o .stand-parts .result) (o .stand-parts .ensures) _ (c .before .s2 .given .1)
 
-same-length-3 : tie.Need-same-length-3
-same-length-3 c = search needs
-
 returns-3 : tie.Need-returns-3
 returns-3 c =
     let o = c .before .before .before .before .before in
     let s = o .before .before .before .before .before in
     let a = s .args in
     told-above (a .self) (a .u) (a .v) (a .proof .now) (a .table) (a .trace .now) (a .steps) (s .pre) _ (o .stand-parts .result) (o .stand-parts .ensures) _ (c .before .s3 .given .1)
-
-same-length-4 : tie.Need-same-length-4
-same-length-4 c = search needs
 
 returns-4 : tie.Need-returns-4
 returns-4 c =
@@ -72,18 +42,18 @@ pub stand-spec : {M : Type 1} → statement M
 stand-spec =
     tie.close
     (tie.spec
-    cast-stand-parts
-    cast-stand-parts-2
+    (λ c. search needs)
+    (λ c. search needs)
     stand-parts-requires
-    enum-known-s
-    enum-known-s-2
-    enum-known-s-3
-    enum-told
-    same-length
+    (λ c. search needs)
+    (λ c. search needs)
+    (λ c. search needs)
+    (λ c. search needs)
+    (λ c. search needs)
     returns
-    same-length-2
+    (λ c. search needs)
     returns-2
-    same-length-3
+    (λ c. search needs)
     returns-3
-    same-length-4
+    (λ c. search needs)
     returns-4)

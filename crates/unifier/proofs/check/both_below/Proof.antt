@@ -1,4 +1,4 @@
--- `check::both_below` meets its contract. Assumes nothing.
+-- `check::both_below` meets its contract.
 use borrow.Author.Tests.{le-ltb, lt-ltb}
 use Rattle.unifier.proofs.check.both_below.Statement.{statement}
 use Rattle.unifier.proofs.check.both_below.Tie as tie

@@ -1,18 +1,9 @@
--- `check::goal_of` meets its contract: by cases on the goal. Assumes nothing.
+-- `check::goal_of` meets its contract: by cases on the goal.
 use native.Mathlib.Omega.{arith}
 use borrow.Author.Needs.{needs}
 use Rattle.unifier.proofs.CheckLaws.{same-ends, below-ends}
 use Rattle.unifier.proofs.check.goal_of.Statement.{statement}
 use Rattle.unifier.proofs.check.goal_of.Tie as tie
-
-enum-told : tie.Need-enum-told
-enum-told c = search needs
-
-enum-told-2 : tie.Need-enum-told-2
-enum-told-2 c = search needs
-
-enum-known-goal : tie.Need-enum-known-goal
-enum-known-goal c = search needs
 
 cast-t7 : tie.Need-cast-t7
 cast-t7 c =
@@ -26,9 +17,6 @@ cast-t8 c =
     let s = g .before .before in
     omega (arith, same-ends 64 _ _ (s .args .goal) (g .goal .given .1) (s .pre))
 
-enum-known-goal-2 : tie.Need-enum-known-goal-2
-enum-known-goal-2 c = search needs
-
 cast-t9 : tie.Need-cast-t9
 cast-t9 c =
     let g = c .before in
@@ -41,12 +29,6 @@ cast-t10 c =
     let s = g .before .before in
     omega (arith, below-ends 64 _ _ (s .args .goal) (g .goal2 .given .1) (s .pre))
 
-returns : tie.Need-returns
-returns c = search needs
-
-returns-2 : tie.Need-returns-2
-returns-2 c = search needs
-
 returns-3 : tie.Need-returns-3
 returns-3 c = rw (c .before .goal .given .1)
 
@@ -57,15 +39,15 @@ pub goal-of-spec : {M : Type 1} → statement M
 goal-of-spec =
     tie.close
     (tie.spec
-    enum-told
-    enum-told-2
-    enum-known-goal
+    (λ c. search needs)
+    (λ c. search needs)
+    (λ c. search needs)
     cast-t7
     cast-t8
-    enum-known-goal-2
+    (λ c. search needs)
     cast-t9
     cast-t10
-    returns
-    returns-2
+    (λ c. search needs)
+    (λ c. search needs)
     returns-3
     returns-4)

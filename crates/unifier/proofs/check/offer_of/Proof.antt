@@ -1,16 +1,10 @@
--- `check::offer_of` meets its contract: by cases on the offer. Assumes nothing.
+-- `check::offer_of` meets its contract: by cases on the offer.
 use native.Mathlib.Omega.{arith}
 use borrow.Author.Needs.{needs}
 use mathlib.Core.Path.{refl}
 use Rattle.unifier.proofs.CheckLaws.{offer-ends}
 use Rattle.unifier.proofs.check.offer_of.Statement.{statement}
 use Rattle.unifier.proofs.check.offer_of.Tie as tie
-
-enum-told : tie.Need-enum-told
-enum-told c = search needs
-
-enum-known-offer : tie.Need-enum-known-offer
-enum-known-offer c = search needs
 
 cast-t6 : tie.Need-cast-t6
 cast-t6 c =
@@ -31,4 +25,4 @@ returns-2 : tie.Need-returns-2
 returns-2 c = rw (c .before .offer .given .1) (λ s. refl)
 
 pub offer-of-spec : {M : Type 1} → statement M
-offer-of-spec = tie.close (tie.spec enum-told enum-known-offer cast-t6 cast-t7 returns returns-2)
+offer-of-spec = tie.close (tie.spec (λ c. search needs) (λ c. search needs) cast-t6 cast-t7 returns returns-2)

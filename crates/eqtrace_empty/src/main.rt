@@ -1,4 +1,0 @@
-// An empty input.
-fn main() {
-    console::run();
-}

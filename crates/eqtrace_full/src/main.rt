@@ -1,4 +1,0 @@
-// An input of 65,536 bytes, most of them one order.
-fn main() {
-    console::run();
-}

@@ -1,4 +1,0 @@
-// An input of 65,537 bytes.
-fn main() {
-    console::run();
-}

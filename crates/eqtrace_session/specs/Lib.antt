@@ -1,0 +1,4 @@
+-- An input's orders carried out.
+pub mod Program
+pub mod Transcript
+pub mod Steps

@@ -1,0 +1,86 @@
+-- The book's answer to an order and to a list of orders, cited names aside, and the claim about every list of orders.
+--   forget     an answer without its names
+--   spoken     the book's reply to a call, as an answer
+--   Stance     how two nodes stand in the closure of the book's equations
+--   BookAnswers      the book's answer to an order and its two lists afterwards; an order that can't be read, and a query, leave them
+--   BookAnswersAll   the same for a list of orders, counted from i
+--   Session    what carrying out a list of orders may give: each order's contract and nothing else
+--   FollowsBook   the answers are the book's, and the workspace has its two lists, with zero in unused places
+use mathlib.Core.Path.{_≡_}
+use mathlib.Core.List.{List, [], _∷_, map}
+use mathlib.Core.Option.{Option, none, some}
+use Prim.Native.Nat.{ℕ, _+_}
+use lib.ListN.{length}
+use Rattle.graph.specs.State.{State, emptyState, variable, functor, equationOf}
+use Rattle.graph.specs.Closure.{Same, Below}
+use Rattle.graph.specs.Book as book
+use Rattle.unifier.specs.Views.{Valid, packed, freshWorkspace}
+use Rattle.unifier.specs.Compare.{refusalOf}
+use Rattle.unifier.specs.declared.Workspace.{Workspace}
+use Rattle.eqtrace_orders.specs.Grammar.{Order, orderOf}
+use Rattle.eqtrace_orders.specs.Grammar as order
+use Rattle.eqtrace_answers.specs.Text.{Output, node, held, gone, same, below, above, apart, refused, unreadable}
+use Rattle.eqtrace_carry.specs.Carried.{Does}
+
+abbrev pub forget : Output → Output
+forget (node i) = node i
+forget (held n) = held n
+forget (gone n) = gone n
+forget (same ns) = same []
+forget (below ns) = below []
+forget (above ns) = above []
+forget apart = apart
+forget (refused k ns) = refused k []
+forget (unreadable i) = unreadable i
+
+-- no order clears
+abbrev pub spoken : ℕ → book.BookReply → Output
+spoken x (book.number i) = node i
+spoken x book.held = held x
+spoken x book.gone = gone x
+spoken x book.cleared = apart
+spoken x (book.refused k) = refused k []
+
+pub record Calls (s : State) (c : book.Call) (x : ℕ) (a : Output) (d : State) : Type 0 where
+  pub number : ℕ
+  pub refusal : book.Refusal s c number
+  pub answer : a ≡ spoken x (book.answer s c number .reply)
+  pub state : d ≡ book.answer s c number .state
+
+pub data Stance (s : State) (u v : ℕ) : Output → Type 0 where
+  is-same : Same s u v → Stance s u v (same [])
+  lies-below : (Same s u v → ⊥) → Below s u v → Stance s u v (below [])
+  lies-above : (Same s u v → ⊥) → (Below s u v → ⊥) → Below s v u → Stance s u v (above [])
+  is-apart : (Same s u v → ⊥) → (Below s u v → ⊥) → (Below s v u → ⊥) → Stance s u v apart
+
+abbrev pub QueryReplies : Option ℕ → State → ℕ → ℕ → Output → Type 0
+QueryReplies none s u v a = Stance s u v a
+QueryReplies (some k) s u v a = a ≡ refused k []
+
+-- the program's proof buffer has 65,536 bytes
+abbrev pub BookAnswers : State → ℕ → Option Order → Output → State → Type 0
+BookAnswers s i none a d = (a ≡ unreadable i) × (d ≡ s)
+BookAnswers s i (some order.variable) a d = Calls s (book.declare variable) 0 a d
+BookAnswers s i (some (order.functor f cs)) a d = Calls s (book.declare (functor f cs)) 0 a d
+BookAnswers s i (some (order.equate n u v)) a d = Calls s (book.equate (equationOf n u v) 65536) n a d
+BookAnswers s i (some (order.withdraw n)) a d = Calls s (book.withdraw n) n a d
+BookAnswers s i (some (order.query u v)) a d = QueryReplies (refusalOf s u v 65536) s u v a × (d ≡ s)
+
+pub data BookAnswersAll : State → ℕ → List (List ℕ) → List Output → State → Type 0 where
+  over : {s : State} {i : ℕ} → BookAnswersAll s i [] [] s
+  next : {s d e : State} {i : ℕ} {line : List ℕ} {lines : List (List ℕ)} {a : Output} {answers : List Output}
+      → BookAnswers s i (orderOf line) a d → BookAnswersAll d (i + 1) lines answers e → BookAnswersAll s i (line ∷ lines) (a ∷ answers) e
+
+pub data Session : Workspace → ℕ → List (List ℕ) → List Output → Workspace → Type 0 where
+  over : {w : Workspace} {i : ℕ} → Session w i [] [] w
+  next : {w v u : Workspace} {i : ℕ} {line : List ℕ} {lines : List (List ℕ)} {a : Output} {answers : List Output} (before after : List ℕ) → length before ≡ 65536
+      → Does w i (orderOf line) before after a v → Session v (i + 1) lines answers u → Session w i (line ∷ lines) (a ∷ answers) u
+
+pub record FollowsBook (lines : List (List ℕ)) (answers : List Output) (w : Workspace) : Type 0 where
+  pub state : State
+  pub told : BookAnswersAll emptyState 1 lines (map forget answers) state
+  pub workspace : w ≡ packed state
+  pub valid : Valid w
+
+abbrev pub Orders : Type 0
+Orders = (lines : List (List ℕ)) (answers : List Output) (w : Workspace) → Session freshWorkspace 1 lines answers w → FollowsBook lines answers w

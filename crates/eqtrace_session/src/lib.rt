@@ -1,0 +1,145 @@
+// An input's orders carried out, one after the other: `begin`, then `step` until nothing is left. The buffers are those of `eqtrace_carry`.
+ghost use mathlib.Core.Path.{_≡_};
+ghost use Prim.Native.Nat.{_≤_, _<_};
+ghost use lib.ListN.{length};
+ghost use Rattle.eqtrace_orders.specs.Input.{EndsAt};
+ghost use Rattle.eqtrace_session.specs.Steps.{beginning, leftOf, OrderAt, TooLong, Steps};
+use unifier::Workspace;
+
+// A place in an input: the workspace after the orders before it, where the next one begins, and its number. Only `begin` and `step` make one.
+pub struct Cursor {
+    workspace: Workspace,
+    at: usize,
+    number: u32,
+}
+
+// What is left of an input at a cursor.
+enum Left {
+    Nothing,
+    TooLong,
+    Order,
+}
+
+// The cursor behind a step, and how many bytes of the lent buffer the step's text has: 0 where nothing was left.
+pub struct Stepped {
+    pub cursor: Cursor,
+    pub length: usize,
+}
+
+// Where every input begins.
+pub fn begin() -> Cursor
+    ensures { λ r. ⌜ r ≡ beginning ⌝ }
+{
+    let w = Workspace::fresh();
+    Cursor {
+        workspace: w,
+        at: 0,
+        number: 1,
+    }
+}
+
+pub fn workspace(c: Cursor) -> Workspace
+    ensures { λ r. ⌜ r ≡ c .workspace ⌝ }
+{
+    c.workspace
+}
+
+// An input that may be read has at most 65,536 orders, so no step comes to a higher number.
+fn left_at(input: &[u8], at: usize, i: u32) -> Left
+    ensures { λ r. ⌜ r ≡ leftOf (now (input .entry)) at i ⌝ }
+{
+    if input.len() <= at {
+        return Left::Nothing;
+    }
+    if 65536 < i {
+        return Left::Nothing;
+    }
+    if 65536 < input.len() {
+        return Left::TooLong;
+    }
+    Left::Order
+}
+
+// Where the order that begins at `at` ends: at the next line break, or where the input ends.
+fn line_end(input: &[u8], at: usize) -> usize
+    requires { ⌜ at ≤ length (now input) ⌝ }
+    ensures { λ r. ⌜ EndsAt (now (input .entry)) at r ⌝ }
+{
+    let mut i = at;
+    while i < input.len() {
+        if input[i] == 10 {
+            return i;
+        }
+        i += 1;
+    }
+    i
+}
+
+// The one answer to an input that is too long.
+fn too_long(w: Workspace, end: usize, i: u32, names: &mut [u16], out: &mut [u8]) -> Stepped
+    requires { ⌜ (length (now names) ≡ 8192) × (49184 ≤ length (now out)) ⌝ }
+    ensures { λ r. ⌜ TooLong w end i (now (out .entry)) (now (out .exit)) r ⌝ }
+{
+    let carried = eqtrace_carry::unreadable(w, 0, names, out);
+    let v = carried.workspace;
+    Stepped {
+        cursor: Cursor {
+            workspace: v,
+            at: end,
+            number: i,
+        },
+        length: carried.length,
+    }
+}
+
+// The order at `at`, and the cursor behind it. This is the place that decides whether to go on: after every reply, refusals too.
+fn order_at<'a>(
+    w: Workspace,
+    input: &'a [u8],
+    at: usize,
+    i: u32,
+    proof: &mut [u8],
+    names: &mut [u16],
+    out: &mut [u8],
+) -> Stepped
+    requires { ⌜ (at < length (now input)) × (length (now input) ≤ 65536) × (i ≤ 65536) × (length (now proof) ≡ 65536) × (length (now names) ≡ 8192) × (49184 ≤ length (now out)) ⌝ }
+    ensures { λ r. ⌜ OrderAt w (now (input .entry)) at i (now (proof .entry)) (now (proof .exit)) (now (out .entry)) (now (out .exit)) r ⌝ }
+{
+    let e = line_end(input, at);
+    let carried = eqtrace_carry::carry_out(w, &input[at..e], i, proof, names, out);
+    let after = carried.workspace;
+    Stepped {
+        cursor: Cursor {
+            workspace: after,
+            at: e + 1,
+            number: i + 1,
+        },
+        length: carried.length,
+    }
+}
+
+// One order, from its line to its text at the start of `out`. Where nothing is left, the cursor stays and the text is empty.
+pub fn step<'a>(
+    c: Cursor,
+    input: &'a [u8],
+    proof: &mut [u8; 65536],
+    names: &mut [u16; 8192],
+    out: &mut [u8; 49184],
+) -> Stepped
+    ensures { λ r. ⌜ Steps c (now (input .entry)) (now (proof .entry)) (now (proof .exit)) (now (out .entry)) (now (out .exit)) r ⌝ }
+{
+    let w = c.workspace;
+    let at = c.at;
+    let i = c.number;
+    let p: &mut [u8] = proof;
+    let n: &mut [u16] = names;
+    let o: &mut [u8] = out;
+    match left_at(input, at, i) {
+        Left::Nothing => Stepped {
+            cursor: c,
+            length: 0,
+        },
+        Left::TooLong => too_long(w, input.len(), i, n, o),
+        Left::Order => order_at(w, input, at, i, p, n, o),
+    }
+}

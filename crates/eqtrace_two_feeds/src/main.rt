@@ -1,4 +1,0 @@
-// The README's worked session: the files of examples/.
-fn main() {
-    console::run();
-}

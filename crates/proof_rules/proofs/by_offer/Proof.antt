@@ -1,0 +1,14 @@
+-- `proof_rules::by_offer` meets its contract: rule 1 on the offered equation, by cases.
+use borrow.Author.Tests.{eq-eqb, ne-eqb}
+use borrow.Author.Needs.{needs}
+use Rattle.proof_rules.proofs.by_offer.Statement.{statement}
+use Rattle.proof_rules.proofs.by_offer.Tie as tie
+
+returns-2 : tie.Need-returns-2
+returns-2 c = rw (c .before .before .o .given .1, eq-eqb _ _ (c .if1 .taken))
+
+returns-3 : tie.Need-returns-3
+returns-3 c = rw (c .before .before .o .given .1, ne-eqb _ _ (c .if1 .left))
+
+pub by-offer-spec : {M : Type 1} → statement M
+by-offer-spec = tie.close (tie.spec (λ c. search needs) (λ c. search needs) (λ c. search needs) returns-2 returns-3)

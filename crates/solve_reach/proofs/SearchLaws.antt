@@ -1,0 +1,154 @@
+-- What the search says of a state whose closure the table is: it reaches the classes below u, exactly. And cycles: a node below itself
+-- has a functor node in its class.
+use mathlib.Core.Path.{_≡_, refl, sym, _∙_, ap}
+use mathlib.Core.Bool.{true, false}
+use mathlib.Core.Logic.{inl, inr, ⊎-elim}
+use mathlib.Core.List.{List}
+use mathlib.Core.Option.{some}
+use Prim.Native.Nat.{ℕ, zero, suc, _≤_, _<_}
+use native.Mathlib.Omega.{arith}
+use lib.ListN.{length, getD}
+use Rattle.graph.specs.State.{State, functor, IsNode, NodeAt, ChildAt}
+use Rattle.graph.specs.Closure.{Same, reflexivity, symmetry, transitivity, Below, child, same-below, below-same, below-below}
+use Rattle.graph.specs.Lines.{byChild}
+use Rattle.graph.specs.Lines as lines
+use Rattle.graph.proofs.ClosureLaws.{KeepsBelow, below-least}
+use Rattle.store.specs.Views.{symbolAt, childrenAt, nodesOf}
+use Rattle.store.specs.declared.Terms.{Terms}
+use Rattle.store.proofs.ViewLaws.{nodes-length, child-found}
+use Rattle.solve_classes.specs.Table.{class, Table}
+use Rattle.solve_classes.specs.Exact.{Exact}
+use Rattle.solve_trace.specs.Nodes.{Nodes, IsFunctor, Formed}
+use Rattle.solve_trace.proofs.NodeLaws.{functor-found, known}
+use Rattle.solve_heights.proofs.CountLaws.{equal-or-not}
+use Rattle.solve_heights.proofs.PeelLaws.{class-low}
+use Rattle.solve_heights.specs.Peel.{heightAt, Peeled}
+use Rattle.solve_heights.proofs.OutcomeLaws.{child-under, cycle-left}
+use Rattle.solve_reach.specs.Reach.{levelOf, Edge, Searched}
+use Rattle.solve_reach.specs.Search.{Source, Step, Reached, OnCycle}
+
+-- a child is a step down
+by-child : (s : State) (p f i k : ℕ) (cs : List ℕ) → NodeAt s p (functor f cs) → ChildAt cs i k → byChild (s .nodes) p (suc i) ≡ some (lines.below p k)
+by-child s p f i k cs n c = rw (n, c)
+
+module _ (g : Terms) (s : State) (t parent place into level : List ℕ) (u : ℕ) (T : Table t) (F : Formed g) (N : Nodes g s) (E : Exact s t)
+    (u-known : u < g .count) (R : Reached g t parent place into level u) where
+  child-count : {d p i k : ℕ} → Step g t d p i k → k < g .count
+  child-count {d} {p} S = omega (arith, S .child, F .earlier p (S .index) (S .functor .known) (S .within), S .functor .known)
+
+  edge : (d p i k : ℕ) → Step g t d p i k → Edge s t d p i k
+  edge d p i k S =
+      let c : ChildAt (childrenAt g p) (S .index) k = rw (S .child) (child-found g p (S .index) (S .within)) in
+      record {
+        parent-known = known g s N p (S .functor .known);
+        child-known = known g s N k (child-count S);
+        in-class = S .in-class;
+        step = rw (S .place) (by-child s p (symbolAt g p) (S .index) k (childrenAt g p) (functor-found g s N p (S .functor)) c);
+      }
+
+  step-below : (d p i k : ℕ) → Step g t d p i k → Below s p k
+  step-below d p i k S =
+      let c : ChildAt (childrenAt g p) (S .index) k = rw (S .child) (child-found g p (S .index) (S .within)) in
+      child (S .index) (functor-found g s N p (S .functor)) c
+
+  -- by induction on the level
+  sound : (l v : ℕ) → v < g .count → 1 ≤ levelOf t level v → levelOf t level v ≤ l → Below s u v
+  sound zero v h a b = absurd (omega arith)
+  sound (suc l) v h a b =
+      let d = class t v in
+      let d-low : d < 64 = class-low g t T F v h in
+      let S = R .steps d d-low a in
+      let p = getD parent d 0 in
+      let k = getD into d 0 in
+      let down : Below s p v
+      = below-same (step-below d p (getD place d 0) k S) (E .only k v (known g s N k (child-count S)) (known g s N v h) (S .in-class)) in
+      ⊎-elim
+      (λ e. same-below (E .only u p (known g s N u u-known) (known g s N p (S .functor .known)) (sym e)) down)
+      (λ n.
+      let O = R .ways .onward d d-low a in
+      below-below (sound l p (S .functor .known) (O .reached n) (omega (arith, O .bounded n, b, a))) down)
+      (equal-or-not (class t p) (class t u))
+
+  -- down from a source every class was reached
+  Leads : ℕ → ℕ → Type 0
+  Leads x y = Source t level u x → 1 ≤ levelOf t level y
+
+  leads : KeepsBelow s Leads
+  unfolding Leads
+  leads = record {
+    by-child = λ x f i y cs n c S. let K = child-under g s N x f i y cs n c in rw (← K .1 .1) (R .closed x (K .0) S i (K .1 .0));
+    by-same-below = λ x y z p q S. q (moved x y (E .has p) S);
+    by-below-same = λ x y z p q S. rw (← E .has q) (p S);
+    by-below-below = λ x y z p q S. q (inr (p S));
+  }
+    where
+      moved : (x y : ℕ) → class t x ≡ class t y → Source t level u x → Source t level u y
+      moved x y e S = rw (← e) S
+
+  pub searched : Searched s t parent place into level u
+  unfolding Leads
+  searched =
+      record {
+        edges = record { at = λ d l h. edge d (getD parent d 0) (getD place d 0) (getD into d 0) (R .steps d l h) };
+        reached = λ v h a. sound (levelOf t level v) v (counted v h) a (omega arith);
+        complete = λ v b. below-least s Leads leads b (inl refl);
+      }
+    where
+      counted : (v : ℕ) → IsNode s v → v < g .count
+      counted v h = let a : v < length (nodesOf g) = rw N at h in omega (arith, nodes-length g)
+
+-- ---- cycles
+
+-- what has something below it is the same as a functor node
+module _ (g : Terms) (s : State) (N : Nodes g s) where
+  Founded : ℕ → ℕ → Type 0
+  Founded x y = (p : ℕ) × (IsFunctor g p × Same s x p)
+
+  founded : KeepsBelow s Founded
+  unfolding Founded
+  founded = record {
+    by-child = λ x f i y cs n c. let U = child-under g s N x f i y cs n c .0 in (x, (U, reflexivity (known g s N x (U .known))));
+    by-same-below = λ x y z p q. (q .0, (q .1 .0, transitivity p (q .1 .1)));
+    by-below-same = λ x y z p q. p;
+    by-below-below = λ x y z p q. p;
+  }
+
+  -- a cycle passes through a functor node
+  pub cycle-functor : (x : ℕ) → Below s x x → (p : ℕ) × (IsFunctor g p × Below s p p)
+  unfolding Founded
+  cycle-functor x b =
+      let W = below-least s Founded founded b in
+      let S = W .1 .1 in
+      (W .0, (W .1 .0, same-below (symmetry S) (below-same b S)))
+
+module _ (g : Terms) (s : State) (t : List ℕ) (h : List ℕ) (n : ℕ) (T : Table t) (F : Formed g) (N : Nodes g s) (E : Exact s t) (P : Peeled g t h n) where
+  -- a class that the peel took has no cycle
+  pub off-cycle : (u c : ℕ) → c ≡ class t u → (heightAt h c ≡ 255 → ⊥) → OnCycle g s u false
+  off-cycle u c e d =
+      record {
+        yes = λ q. absurd (let z : _≡_ {A = ℕ} 0 1 = cc in omega arith);
+        never = λ q U b. d (ap (heightAt h) e ∙ cycle-left g s t h n T F N E P u b);
+      }
+
+-- the search tells whether u lies below itself
+module _ (g : Terms) (s : State) (t parent place into level : List ℕ) (u c : ℕ) (T : Table t) (F : Formed g) (N : Nodes g s) (E : Exact s t)
+    (u-known : u < g .count) (R : Reached g t parent place into level u) (e : c ≡ class t u) where
+  pub not-below : getD level c 0 ≡ 0 → OnCycle g s u false
+  not-below z =
+      let S = searched g s t parent place into level u T F N E u-known R in
+      record {
+        yes = λ q. absurd (let z : _≡_ {A = ℕ} 0 1 = cc in omega arith);
+        never = λ q U b. omega (arith, S .complete u b, z, ap (λ (x : ℕ). getD level x 0) e);
+      }
+
+  pub is-below : 1 ≤ getD level c 0 → OnCycle g s u true
+  is-below d =
+      let S = searched g s t parent place into level u T F N E u-known R in
+      record {
+        yes = λ q. S .reached u (known g s N u u-known) (omega (arith, ap (λ (x : ℕ). getD level x 0) e));
+        never = λ q. absurd (let z : _≡_ {A = ℕ} 0 1 = cc in omega arith);
+      }
+
+-- the answer is the node that was found
+pub found : (s : State) (r u : ℕ) → r ≡ u → IsNode s u → Below s u u → IsNode s r × Below s r r
+found s r u e k b = rw e (k, b)

@@ -1,0 +1,4 @@
+// An empty input.
+fn main() {
+    eqtrace_console::run();
+}

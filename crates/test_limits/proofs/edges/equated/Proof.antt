@@ -1,0 +1,27 @@
+use borrow.Author.Needs.{needs}
+use mathlib.Core.Path.{_≡_}
+use Prim.Native.Nat.{_-_}
+use lib.ListN.{length}
+use Rattle.test_limits.proofs.edges.equated.Statement.{statement}
+use Rattle.test_limits.proofs.edges.equated.Tie as tie
+
+abbrev Inv-loop : tie.InvT-loop
+Inv-loop buf₀ times now₀ i₀ buf now i = length buf ≡ length buf₀
+
+abbrev μ-loop : tie.MeasureT-loop
+μ-loop buf₀ times now₀ i₀ buf now i = times - i
+
+pub equated-spec : {M : Type 1} → statement M
+equated-spec =
+    tie.close
+    (tie.spec
+    Inv-loop
+    μ-loop
+    (λ c. search needs)
+    (λ c κs. search needs)
+    (λ c κs. search needs)
+    (λ c. search needs)
+    (λ c. search needs)
+    (λ c. search needs)
+    (λ c. search needs)
+    (λ c. search needs))

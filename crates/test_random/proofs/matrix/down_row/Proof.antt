@@ -1,0 +1,26 @@
+use borrow.Author.Needs.{needs}
+use mathlib.Core.Path.{_≡_}
+use Prim.Native.Nat.{_-_}
+use lib.ListN.{length}
+use Rattle.test_random.proofs.matrix.down_row.Statement.{statement}
+use Rattle.test_random.proofs.matrix.down_row.Tie as tie
+
+abbrev Inv-loop : tie.InvT-loop
+Inv-loop desk₀ book u n changed₀ v₀ desk changed v = length desk ≡ length desk₀
+
+abbrev μ-loop : tie.MeasureT-loop
+μ-loop desk₀ book u n changed₀ v₀ desk changed v = n - v
+
+pub down-row-spec : {M : Type 1} → statement M
+down-row-spec =
+    tie.close
+    (tie.spec
+    Inv-loop
+    μ-loop
+    (λ c. search needs)
+    (λ c κs. search needs)
+    (λ c. search needs)
+    (λ c. search needs)
+    (λ c. search needs)
+    (λ c. search needs)
+    (λ c. search needs))

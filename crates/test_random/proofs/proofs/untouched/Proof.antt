@@ -1,0 +1,16 @@
+use borrow.Author.Needs.{needs}
+use Prim.Native.Nat.{_-_}
+use lib.ListN.{length}
+use Rattle.test_random.proofs.proofs.untouched.Statement.{statement}
+use Rattle.test_random.proofs.proofs.untouched.Tie as tie
+
+abbrev Inv-loop : tie.InvT-loop
+Inv-loop proof from ok₀ i₀ ok i = Unit
+
+abbrev μ-loop : tie.MeasureT-loop
+μ-loop proof from ok₀ i₀ ok i = length proof - i
+
+pub untouched-spec : {M : Type 1} → statement M
+untouched-spec =
+    tie.close
+    (tie.spec Inv-loop μ-loop (λ c. search needs) (λ c. search needs) (λ c. search needs) (λ c. search needs) (λ c. search needs) (λ c. search needs))

@@ -1,0 +1,209 @@
+// Lines that end in u below v: from v back up to u, a step down at a time. For each node, `to` has the number of a line that
+// claims the node same its class number; `parent`, `place`, `into` and `level` say how each class was reached from u: see `solve_reach`.
+ghost use mathlib.Core.Path.{_≡_};
+ghost use Prim.Native.Nat.{ℕ, _+_, _-_, _≤_, _<_};
+ghost use lib.ListN.{length, getD};
+ghost use Rattle.solve_classes.specs.Table.{Table};
+ghost use Rattle.solve_reach.specs.Reach.{levelOf, Ways};
+ghost use Rattle.write_needed.specs.Entries.{AllInRange};
+ghost use Rattle.write_below.specs.Chain.{Descended, Risen, Arrived, Climbed, Way, Ascended, Lowered};
+
+fn wide(x: u8) -> u16
+    ensures { λ r. ⌜ r ≡ x ⌝ }
+{
+    x as u16
+}
+
+// From lines `i`, k same x, and `j`, q same x, where `k` is the child of `p` at `place`: p below q, in one line or four.
+fn descend(buf: &mut [u8], n: usize, i: u16, j: u16, k: u8, q: u8, p: u8, place: u8) -> usize
+    requires { ⌜ (n + 4 ≤ 8192) × (65536 ≤ length (now buf)) ⌝ }
+    ensures { λ r. ⌜ Descended (now (buf .entry)) n i j k q p place (now (buf .exit)) r ⌝ }
+{
+    proof_lines::put_line(buf, n, 2, place, wide(p), 0);
+    if k == q {
+        return n + 1;
+    }
+    write_runs::link(buf, n + 1, i, j);
+    proof_lines::put_line(buf, n + 3, 5, 0, n as u16, n as u16 + 2);
+    n + 4
+}
+
+// The same where line n - 1 claims q below v: p below v, in one line more.
+fn rise(buf: &mut [u8], n: usize, i: u16, j: u16, k: u8, q: u8, p: u8, place: u8) -> usize
+    requires { ⌜ (1 ≤ n) × ((n + 5 ≤ 8192) × (65536 ≤ length (now buf))) ⌝ }
+    ensures { λ r. ⌜ Risen (now (buf .entry)) n i j k q p place (now (buf .exit)) r ⌝ }
+{
+    let m = descend(buf, n, i, j, k, q, p, place);
+    proof_lines::put_line(buf, m, 5, 0, m as u16 - 1, n as u16 - 1);
+    m + 1
+}
+
+// From lines `i`, u same x, `j`, q same x, and n - 1, q below v: u below v, in three lines or none.
+fn arrive(buf: &mut [u8], n: usize, i: u16, j: u16, u: u8, q: u8) -> usize
+    requires { ⌜ (1 ≤ n) × ((n + 3 ≤ 8192) × (65536 ≤ length (now buf))) ⌝ }
+    ensures { λ r. ⌜ Arrived (now (buf .entry)) n i j u q (now (buf .exit)) r ⌝ }
+{
+    if u == q {
+        return n;
+    }
+    write_runs::link(buf, n, i, j);
+    proof_lines::put_line(buf, n + 2, 5, 0, n as u16 + 1, n as u16 - 1);
+    n + 3
+}
+
+// Line n - 1 claims from below v, where `from` is one step up: lines that end in u below v, `l` steps up.
+fn climb(
+    buf: &mut [u8],
+    n: usize,
+    table: [u8; 64],
+    to: &[u16; 64],
+    parent: &[u8; 64],
+    place: &[u8; 64],
+    into: &[u8; 64],
+    u: u8,
+    from: u8,
+    l: usize,
+) -> usize
+    requires { ⌜ (1 ≤ n) × ((n + 318 ≤ 8192) × (65536 ≤ length (now buf))) ⌝ }
+    requires { ⌜ (u < 64) × ((from < 64) × ((1 ≤ l) × (l ≤ 64))) ⌝ }
+    requires { ⌜ Table table ⌝ }
+    requires { ⌜ ((d : ℕ) → d < 64 → (getD (now parent) d 0 < 64) × (getD (now into) d 0 < 64)) ⌝ }
+    ensures { λ r. ⌜ Climbed (now (buf .entry)) n table (now (to .entry)) (now (parent .entry)) (now (place .entry)) (now (into .entry)) u from l (now (buf .exit)) r ⌝ }
+{
+    let mut m = n;
+    let mut q = from;
+    let mut i: usize = 1;
+    while i < l {
+        let d = table[q as usize];
+        let p = parent[d as usize];
+        let k = into[d as usize];
+        let more = rise(
+            buf,
+            m,
+            to[k as usize],
+            to[q as usize],
+            k,
+            q,
+            p,
+            place[d as usize],
+        );
+        m = more;
+        q = p;
+        i += 1;
+    }
+    arrive(buf, m, to[u as usize], to[q as usize], u, q)
+}
+
+// The way up from v to u's class: how many steps, and for each the child that it leads to and the lower node, which are of one class.
+fn way(
+    table: [u8; 64],
+    parent: &[u8; 64],
+    into: &[u8; 64],
+    level: &[u8; 64],
+    u: u8,
+    v: u8,
+    xs: &mut [u8; 64],
+    ys: &mut [u8; 64],
+) -> usize
+    requires { ⌜ (length (now xs) ≡ 64) × (length (now ys) ≡ 64) ⌝ }
+    requires { ⌜ (u < 64) × ((v < 64) × (Ways table (now parent) (now into) (now level) u × (1 ≤ levelOf table (now level) v))) ⌝ }
+    requires { ⌜ Table table ⌝ }
+    ensures { λ r. ⌜ Way table (now (parent .entry)) (now (into .entry)) (now (level .entry)) u v r (now (xs .exit)) (now (ys .exit)) ⌝ }
+{
+    let mut q = v;
+    let mut i: usize = 0;
+    loop {
+        let d = table[q as usize];
+        xs[i] = into[d as usize];
+        ys[i] = q;
+        q = parent[d as usize];
+        i += 1;
+        if table[q as usize] == table[u as usize] {
+            return i;
+        }
+    }
+}
+
+// Lines that end in u below v, `l` steps up from v.
+fn ascend(
+    buf: &mut [u8],
+    n: usize,
+    table: [u8; 64],
+    to: &[u16; 64],
+    parent: &[u8; 64],
+    place: &[u8; 64],
+    into: &[u8; 64],
+    u: u8,
+    v: u8,
+    l: usize,
+) -> usize
+    requires { ⌜ (n + 322 ≤ 8192) × (65536 ≤ length (now buf)) ⌝ }
+    requires { ⌜ (u < 64) × ((v < 64) × ((1 ≤ l) × (l ≤ 64))) ⌝ }
+    requires { ⌜ Table table ⌝ }
+    requires { ⌜ ((d : ℕ) → d < 64 → (getD (now parent) d 0 < 64) × (getD (now into) d 0 < 64)) ⌝ }
+    ensures { λ r. ⌜ Ascended (now (buf .entry)) n table (now (to .entry)) (now (parent .entry)) (now (place .entry)) (now (into .entry)) u v l (now (buf .exit)) r ⌝ }
+{
+    let d = table[v as usize];
+    let p = parent[d as usize];
+    let k = into[d as usize];
+    let m = descend(
+        buf,
+        n,
+        to[k as usize],
+        to[v as usize],
+        k,
+        v,
+        p,
+        place[d as usize],
+    );
+    climb(buf, m, table, to, parent, place, into, u, p, l)
+}
+
+// Lines that end in u below v, where `table` is the trace's and v's class was reached from u. A cycle is u below u.
+pub fn explain_below<'a>(
+    buf: &mut [u8],
+    nodes: usize,
+    trace: &[u16; 64],
+    steps: usize,
+    name: &[u16; 256],
+    left: &'a [u8; 256],
+    right: &'a [u8; 256],
+    child: &'a [u8; 256],
+    table: [u8; 64],
+    parent: &[u8; 64],
+    place: &[u8; 64],
+    into: &[u8; 64],
+    level: &[u8; 64],
+    u: u8,
+    v: u8,
+) -> usize
+    requires { ⌜ (nodes ≤ 64) × ((steps ≤ 63) × (65536 ≤ length (now buf))) ⌝ }
+    requires { ⌜ (length (now trace) ≡ 64) × AllInRange (now trace) steps (now left) (now right) (now child) ⌝ }
+    requires { ⌜ (u < 64) × ((v < 64) × (Ways table (now parent) (now into) (now level) u × (1 ≤ levelOf table (now level) v))) ⌝ }
+    requires { ⌜ Table table ⌝ }
+    ensures { λ r. ⌜ Lowered nodes (now (name .entry)) (now (left .entry)) (now (right .entry)) (now (child .entry)) (now (trace .entry)) steps table (now (parent .entry)) (now (place .entry)) (now (into .entry)) (now (level .entry)) (now (buf .entry)) u v (now (buf .exit)) r ⌝ }
+{
+    let mut xs = [0u8; 64];
+    let mut ys = [0u8; 64];
+    let l = way(table, parent, into, level, u, v, &mut xs, &mut ys);
+    let last = table[ys[l - 1] as usize];
+    let top = parent[last as usize];
+    let mut to = [0u16; 64];
+    let n = write_same::prepare(
+        buf,
+        nodes,
+        trace,
+        steps,
+        name,
+        left,
+        right,
+        child,
+        u,
+        top,
+        &xs,
+        &ys,
+        l,
+        &mut to,
+    );
+    ascend(buf, n, table, &to, parent, place, into, u, v, l)
+}
