@@ -6,7 +6,7 @@ ghost use Rattle.graph.specs.State.{State};
 ghost use Rattle.solve_classes.specs.Table.{Table};
 ghost use Rattle.store.specs.Views.{terms, equations};
 ghost use Rattle.store.specs.Shape.{Shape};
-ghost use Rattle.store_shape.specs.Tells.{Tells};
+ghost use Rattle.base.specs.Tells.{Tells};
 ghost use Rattle.solve_trace.specs.Nodes.{Formed};
 ghost use Rattle.solve_closure.specs.Settled.{Given, ArraysHold, Settled};
 ghost use Rattle.solve_heights.specs.Peel.{Peeled};

@@ -11,7 +11,7 @@ use lib.ListN.{length, getD, take, List·getD-eq-default}
 use lib.Seq.{length-take-le, getD-take}
 use Rattle.graph.specs.State.{State, Equation, offered, functor}
 use Rattle.graph.specs.Goals.{Goal}
-use Rattle.graph.proofs.BoolLaws.{and-left, and-right}
+use Rattle.base.proofs.BoolLaws.{and-left, and-right}
 use Rattle.graph.specs.Lines.{Line}
 use Rattle.graph.specs.Book as book
 use Rattle.proof_lines.specs.Codec.{linesOf, firstLines}

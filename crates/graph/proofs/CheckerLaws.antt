@@ -19,7 +19,7 @@ use Rattle.graph.specs.State.{Node, variable, functor, Equation, State, 
 use Rattle.graph.specs.Closure.{Same, equation, reflexivity, symmetry, transitivity, down, Below, child, same-below, below-same, below-below, Clash}
 use Rattle.graph.specs.Lines.{Line, Claim, same, below, Holds, try, need, named, Functor, functorOf, functorAt, equalLabels, claimOfEquation, byEquation, byChild, byReflexivity, symmetryOf, transitivityOf, downTo, downOf, tidy, byRule, claimOf, LineClaims, all, broken, onAll, more, lineClaims}
 use Rattle.graph.specs.Goals.{Goal, clash-goal, cycle-goal, same-goal, below-goal, Meaning, labelsDiffer, shows, Ended, ends, breaks, empty, lastOf, ended, passed, refused, judgeEnd, Passes, Cites}
-use Rattle.graph.proofs.BoolLaws.{and-left, and-right, and-both, not-true}
+use Rattle.base.proofs.BoolLaws.{and-left, and-right, and-both, not-true}
 
 -- P of what is there, if anything is
 abbrev pub IfSome : {A : Type 0} → (A → Type 0) → Option A → Type 0

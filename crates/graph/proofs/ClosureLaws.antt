@@ -4,7 +4,7 @@ use Prim.Native.Nat.{ℕ}
 use native.Mathlib.Omega.{arith}
 use Rattle.graph.specs.State.{Node, functor, Equation, State, IsNode, NodeAt, ChildAt, Held, EqualLabels, Proper, offered}
 use Rattle.graph.specs.Closure.{Same, equation, reflexivity, symmetry, transitivity, down, Below, child, same-below, below-same, below-below}
-use Rattle.graph.proofs.ListLaws.{found-lt, found-append}
+use Rattle.base.proofs.ListLaws.{found-lt, found-append}
 
 -- ---- least
 

@@ -6,7 +6,7 @@ use Prim.Native.Nat.{ℕ}
 use native.Mathlib.Omega.{arith}
 use lib.ListN.{take}
 use Rattle.graph.specs.State.{Node, Equation, State, IsNode, Proper, equationOf, stateWith, offered}
-use Rattle.graph.specs.Tab.{tab}
+use Rattle.base.specs.Tab.{tab}
 use Rattle.graph.specs.Closure.{Same, equation, reflexivity, symmetry, transitivity, down}
 use Rattle.graph.specs.Solution.{Solution}
 use Rattle.graph.specs.Verdict.{Verdict}
@@ -14,7 +14,7 @@ use Rattle.graph.specs.Lines.{Line, tidy, byRule, claimOf}
 use Rattle.graph.specs.Goals.{clash-goal, cycle-goal, same-goal}
 use Rattle.graph.specs.Book.{over, step}
 use Rattle.graph.specs.Examples.{equation-line, child-line, turned-line, joined-line, down-line, ExampleRun, program, e11, program-calls, program-replies, Starred, types, a-b, c-g, SectionTwo, siblings, parents, congruent, Nothing, Untidy, Broken, Refusals, Examples}
-use Rattle.graph.proofs.ListLaws.{found-take}
+use Rattle.base.proofs.ListLaws.{found-take}
 use Rattle.graph.proofs.SolutionLaws.{Fewer, solution-fewer, proper-fewer, solution-verdict}
 use Rattle.graph.proofs.CheckerLaws.{judge-sound}
 use Rattle.graph.proofs.StateLaws.{found-snoc, proper-offered}

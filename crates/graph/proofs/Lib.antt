@@ -1,7 +1,4 @@
 -- Laws and theorems.
---   ListLaws      lookups in lists
---   TabLaws       lists read off a function
---   BoolLaws      what a test that passed says
 --   ClosureLaws   the closure is least, grows with the state, joins known nodes
 --   SolutionLaws  what a solution rules out and serves; the verdict is one
 --   CheckerLaws   the checker's definition is sound, and cites only what is held
@@ -9,9 +6,6 @@
 --   StateLaws     what the book's calls keep: proper states, the limits, a solution
 --   SolutionTest  tests that compute: classes, solution, proper state
 --   Examples      the worked examples: one fact
-pub mod ListLaws
-pub mod TabLaws
-pub mod BoolLaws
 pub mod ClosureLaws
 pub mod SolutionLaws
 pub mod CheckerLaws

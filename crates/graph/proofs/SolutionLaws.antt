@@ -8,7 +8,7 @@ use Rattle.graph.specs.State.{Node, Equation, State, IsNode, NodeAt, Hel
 use Rattle.graph.specs.Closure.{Same, equation, reflexivity, symmetry, transitivity, down, Below, child, same-below, below-same, below-below, Clash, Cycle}
 use Rattle.graph.specs.Solution.{Classes, Solution}
 use Rattle.graph.specs.Verdict.{Verdict, clashes, cycles, solvable}
-use Rattle.graph.proofs.ListLaws.{found-append}
+use Rattle.base.proofs.ListLaws.{found-append}
 use Rattle.graph.proofs.ClosureLaws.{same-known}
 
 -- class numbers alone rule out a clash

@@ -15,8 +15,8 @@ use Rattle.graph.specs.Solution.{Classes, Solution}
 use Rattle.graph.specs.Verdict.{Verdict, clashes, cycles}
 use Rattle.graph.specs.Lines.{Line}
 use Rattle.graph.specs.Goals.{clash-goal, cycle-goal, Passes}
-use Rattle.graph.proofs.ListLaws.{lt-found}
-use Rattle.graph.proofs.BoolLaws.{and-left, and-right, then-true}
+use Rattle.base.proofs.ListLaws.{lt-found}
+use Rattle.base.proofs.BoolLaws.{and-left, and-right, then-true}
 use Rattle.graph.proofs.SolutionLaws.{same-class, classes-no-clash, solution-verdict}
 use Rattle.graph.proofs.CheckerLaws.{judge-sound}
 

@@ -16,8 +16,8 @@ use borrow.Author.Tests.{lt-ltb, le-ltb, ltb-true, ltb-false, leb-false, ne-eqb,
 use Rattle.graph.specs.State.{Node, functor, Equation, State, stateWith, emptyState, NodeAt, ChildAt, nameHeld, Proper, offered}
 use Rattle.graph.specs.Solution.{Classes, Solution}
 use Rattle.graph.specs.Book.{Call, declare, equate, withdraw, clear, Transition, removed, allBelow, childrenOf, early, Late, Else, Refusal, accepted, answer, Runs, over, step}
-use Rattle.graph.proofs.ListLaws.{found-lt}
-use Rattle.graph.proofs.BoolLaws.{and-left, and-right}
+use Rattle.base.proofs.ListLaws.{found-lt}
+use Rattle.base.proofs.BoolLaws.{and-left, and-right}
 use Rattle.graph.proofs.SolutionLaws.{Fewer, solution-fewer, proper-fewer}
 
 -- ---- lists

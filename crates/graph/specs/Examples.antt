@@ -11,7 +11,7 @@ use mathlib.Core.Option.{none}
 use Prim.Native.Nat.{ℕ}
 use lib.ListN.{length, take, replicate}
 use Rattle.graph.specs.State.{Node, variable, functor, Equation, State, IsNode, Proper, equationOf, stateWith, emptyState, offered}
-use Rattle.graph.specs.Tab.{tab}
+use Rattle.base.specs.Tab.{tab}
 use Rattle.graph.specs.Closure.{Same, Clash, Cycle}
 use Rattle.graph.specs.Solution.{Solution}
 use Rattle.graph.specs.Verdict.{Verdict}

@@ -1,6 +1,6 @@
 -- The definitions of column unification: what a reader must believe.
+pub mod Limits
 pub mod State
-pub mod Tab
 pub mod Closure
 pub mod Solution
 pub mod Verdict

@@ -6,7 +6,7 @@ use Prim.Native.Nat.{ℕ, suc, _+_, _-_, _/_, _≤_, _<_}
 use native.Mathlib.Omega.{arith}
 use lib.ListN.{length, take, getD, set, length-set}
 use lib.Seq.{take-all}
-use Rattle.graph.proofs.TabLaws.{tab-none, tab-more}
+use Rattle.base.proofs.TabLaws.{tab-none, tab-more}
 use Rattle.graph.specs.State.{State}
 use Rattle.graph.specs.Lines.{Line, Claim, claimOf, LineClaims, all, broken, onAll, more, lineClaims}
 use Rattle.graph.specs.Goals.{ends as endsIn, breaks, ended}

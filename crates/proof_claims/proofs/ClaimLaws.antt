@@ -10,7 +10,7 @@ use lib.ListN.{length, getD, set, getElem?}
 use lib.Seq.{getD-set-same, getD-set-other}
 use lib.Dec.{eqb}
 use borrow.Author.Tests.{eq-eqb, ne-eqb}
-use Rattle.graph.proofs.TabLaws.{tab-length, tab-at, tab-past, tab-more, tab-same}
+use Rattle.base.proofs.TabLaws.{tab-length, tab-at, tab-past, tab-more, tab-same}
 use Rattle.graph.specs.State.{Node}
 use Rattle.graph.specs.Lines.{Claim, same, below, transitivityOf, bySymmetry, byTransitivity, byDown, downOf}
 use Rattle.proof_rules.specs.Rules.{claimBy}

@@ -5,7 +5,7 @@
 use mathlib.Core.List.{List}
 use Prim.Native.Nat.{ℕ, _≤_, _<_}
 use lib.ListN.{getD}
-use Rattle.graph.specs.Tab.{tab}
+use Rattle.base.specs.Tab.{tab}
 use Rattle.graph.specs.State.{State, stateWith}
 use Rattle.graph.specs.Lines.{Claim}
 use Rattle.store.specs.Views.{arityAt}

@@ -9,7 +9,7 @@ use lib.ListN.{length, getD, getElem?, take}
 use lib.Seq.{getD-take, length-take-le}
 use lib.Dec.{eqb}
 use borrow.Author.Tests.{lt-ltb, eqb-true}
-use Rattle.graph.proofs.TabLaws.{tab-at, tab-getD, tab-length, tab-same}
+use Rattle.base.proofs.TabLaws.{tab-at, tab-getD, tab-length, tab-same}
 use Rattle.graph.specs.Lines.{Line}
 use Rattle.proof_lines.specs.declared.Fields.{Fields}
 use Rattle.proof_lines.specs.declared.Decoded.the-variants.{Whole, Reserved}

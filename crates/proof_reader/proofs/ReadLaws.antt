@@ -9,7 +9,7 @@ use lib.ListN.{length, getD, getElem?, length-append, List·getD-append}
 use lib.Dec.{eqb, ltb}
 use borrow.Author.Tests.{eqb-true, lt-ltb, ltb-true, ltb-false}
 use Rattle.graph.specs.Lines.{Line}
-use Rattle.graph.proofs.ListLaws.{found-lt}
+use Rattle.base.proofs.ListLaws.{found-lt}
 use Rattle.proof_lines.specs.Codec.{lineAt, linesOf}
 use Rattle.proof_lines.proofs.Decoding.{lines-length, lines-found}
 use Rattle.proof_lines.specs.Reading.{fieldsOf as fields, decoded}

@@ -7,8 +7,8 @@ use native.Mathlib.Nat.{not-suc-le-zero, le-of-suc-le-suc}
 use native.Mathlib.Omega.{arith}
 use lib.ListN.{getD}
 use borrow.Author.Tests.{eq-eqb, ne-eqb}
-use Rattle.graph.specs.Tab.{tab}
-use Rattle.graph.proofs.TabLaws.{tab-none, tab-first}
+use Rattle.base.specs.Tab.{tab}
+use Rattle.base.proofs.TabLaws.{tab-none, tab-first}
 use Rattle.graph.specs.State.{Equation}
 use Rattle.graph.specs.Lines.{Claim, same, try, named, claimOfEquation, byEquation}
 use Rattle.store.specs.Views.{equationAt, equationsOf}

@@ -7,8 +7,8 @@ use native.Mathlib.Nat.{not-suc-le-zero}
 use native.Mathlib.Omega.{arith}
 use lib.Dec.{eqb, ltb}
 use borrow.Author.Tests.{eq-eqb, ne-eqb, ltb-true, ltb-false, eqb-true, eqb-false}
-use Rattle.graph.specs.Tab.{tab}
-use Rattle.graph.proofs.TabLaws.{tab-at, tab-past}
+use Rattle.base.specs.Tab.{tab}
+use Rattle.base.proofs.TabLaws.{tab-at, tab-past}
 use Rattle.graph.specs.Lines.{same, below, try, need, Functor, functorAt, equalLabels, placeAt, byReflexivity, byChild, downTo, downOf}
 use Rattle.store.specs.Views.{kindAt, symbolAt, arityAt, childrenAt, nodeAt, nodesOf}
 use Rattle.store.specs.declared.Terms.{Terms}

@@ -5,7 +5,7 @@ ghost use mathlib.Core.Path.{_≡_};
 ghost use Prim.Native.Nat.{ℕ, _+_, _*_, _≤_, _<_};
 ghost use lib.Dec.{ltb};
 ghost use lib.ListN.{getD};
-ghost use Rattle.graph.specs.Tab.{tab};
+ghost use Rattle.base.specs.Tab.{tab};
 ghost use Rattle.graph.specs.Lines.{same, need, functorAt, placeAt, byEquation, byChild, downOf};
 ghost use Rattle.store.specs.Views.{terms, equations, nodesOf, equationsOf};
 ghost use Rattle.proof_rules.specs.Rules.{extended, claimed, placed, labelsCompared, FirstName};

@@ -8,9 +8,10 @@ use native.Mathlib.Nat.{eq-or-lt-of-le}
 use native.Mathlib.Omega.{arith}
 use lib.Dec.{eqb}
 use borrow.Author.Tests.{eqb-true, eqb-false}
-use Rattle.solve_classes.specs.Table.{class, Table, Fresh, Merged, sumTo, root, classCount}
+use Rattle.solve_classes.specs.Table.{class, Table, Fresh, Merged, root, classCount}
+use Rattle.base.specs.Sum.{sumTo}
 use Rattle.solve_classes.specs.Merges.{Merges, start, merge}
-use Rattle.solve_classes.proofs.SumLaws.{sum-le, sum-same, sum-at, sum-most}
+use Rattle.base.proofs.SumLaws.{sum-le, sum-same, sum-at, sum-most}
 
 root-cases : (t : List ℕ) (i : ℕ) → ((class t i ≡ i) × (root t i ≡ 1)) ⊎ ((class t i ≡ i → ⊥) × (root t i ≡ 0))
 root-cases t i = go (eqb (class t i) i) refl

@@ -8,9 +8,10 @@ use mathlib.Core.Path.{_≡_}
 use mathlib.Core.List.{List}
 use mathlib.Core.Bool.{cond}
 use mathlib.Core.Logic.{_⊎_}
-use Prim.Native.Nat.{ℕ, zero, suc, _+_, _≤_, _<_}
+use Prim.Native.Nat.{ℕ, _≤_, _<_}
 use lib.ListN.{length, getD}
 use lib.Dec.{eqb, leb}
+use Rattle.base.specs.Sum.{sumTo}
 
 abbrev pub class : List ℕ → ℕ → ℕ
 class t x = getD t x 0
@@ -43,11 +44,6 @@ pub record Merged (t : List ℕ) (a b : ℕ) (r : List ℕ) : Type 0 where
   pub entry : (x : ℕ) → x < 64 → class r x ≡ mergedClass (class t) a b x
   pub to : (x y : ℕ) → x < 64 → y < 64 → class r x ≡ class r y → JoinedBy t a b x y
   pub from : (x y : ℕ) → x < 64 → y < 64 → JoinedBy t a b x y → class r x ≡ class r y
-
--- f 0 + f 1 + .. + f (n - 1)
-unfoldable pub sumTo : (ℕ → ℕ) → ℕ → ℕ
-sumTo f zero = 0
-sumTo f (suc n) = sumTo f n + f n
 
 -- 1 where node i is the lowest of its class
 abbrev pub root : List ℕ → ℕ → ℕ

@@ -8,7 +8,7 @@ use Prim.Native.Nat.{ℕ, zero, suc, _<_}
 use native.Mathlib.Omega.{arith}
 use lib.ListN.{getElem?}
 use Rattle.graph.specs.State.{Equation, State, IsNode, Held, Proper, offered}
-use Rattle.graph.proofs.ListLaws.{found-append, found-last}
+use Rattle.base.proofs.ListLaws.{found-append, found-last}
 use Rattle.solve_classes.specs.Table.{class}
 use Rattle.store.specs.declared.Terms.{Terms}
 use Rattle.solve_trace.specs.Trace.{Reason, equation, down, Traced, start, merge}

@@ -9,10 +9,10 @@ use lib.ListN.{length, getD, take}
 use Rattle.graph.specs.State.{Equation, equationOf, State, stateWith, Held, Proper}
 use Rattle.graph.specs.Closure.{Clash}
 use Rattle.graph.specs.Solution.{Classes}
-use Rattle.graph.specs.Tab.{tab}
-use Rattle.graph.proofs.ListLaws.{found-lt}
+use Rattle.base.specs.Tab.{tab}
+use Rattle.base.proofs.ListLaws.{found-lt}
 use Rattle.graph.proofs.SolutionLaws.{same-class}
-use Rattle.graph.proofs.TabLaws.{tab-length, tab-at}
+use Rattle.base.proofs.TabLaws.{tab-length, tab-at}
 use Rattle.solve_classes.specs.Table.{class, Fresh}
 use Rattle.solve_classes.specs.Exact.{Exact, Sound}
 use Rattle.store.specs.Views.{symbolAt, childrenAt, nodesOf, equationAt, stateFrom}

@@ -7,7 +7,7 @@ use native.Mathlib.Nat.{le-of-suc-le-suc, eq-or-lt-of-le}
 use native.Mathlib.Omega.{arith}
 use lib.Dec.{eqb}
 use borrow.Author.Tests.{eqb-true, eqb-false}
-use Rattle.solve_classes.specs.Table.{sumTo}
+use Rattle.base.specs.Sum.{sumTo}
 
 pub equal-or-not : (a b : ℕ) → (a ≡ b) ⊎ (a ≡ b → ⊥)
 equal-or-not a b = go (eqb a b) refl

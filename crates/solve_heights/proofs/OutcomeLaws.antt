@@ -14,7 +14,7 @@ use Rattle.store.specs.declared.Terms.{Terms}
 use Rattle.store.proofs.ViewLaws.{child-found, child-known}
 use Rattle.solve_classes.specs.Table.{class, Table}
 use Rattle.solve_classes.specs.Exact.{Exact}
-use Rattle.solve_classes.proofs.SumLaws.{sum-some}
+use Rattle.base.proofs.SumLaws.{sum-some}
 use Rattle.solve_trace.specs.Nodes.{Nodes, IsFunctor, Formed}
 use Rattle.solve_trace.proofs.NodeLaws.{functor-found, functor-known, known}
 use Rattle.solve_heights.specs.Peel.{heightAt, leftAt, Peeled}

@@ -13,8 +13,9 @@ use borrow.Author.Tests.{eq-eqb, ne-eqb}
 use borrow.Author.Count.{below-more}
 use Rattle.store.specs.Views.{arityAt, childAt}
 use Rattle.store.specs.declared.Terms.{Terms}
-use Rattle.solve_classes.specs.Table.{class, sumTo, root, Table}
-use Rattle.solve_classes.proofs.SumLaws.{sum-none, sum-more, sum-at, sum-most, sum-some}
+use Rattle.solve_classes.specs.Table.{class, root, Table}
+use Rattle.base.specs.Sum.{sumTo}
+use Rattle.base.proofs.SumLaws.{sum-none, sum-more, sum-at, sum-most, sum-some}
 use Rattle.solve_trace.specs.Nodes.{IsFunctor, Formed}
 use Rattle.solve_heights.specs.Nodes.{IsClass, under}
 use Rattle.solve_heights.specs.Peel.{heightAt, leftAt, left, classes, Stuck, Blocked, Lower, Peeled}

@@ -13,7 +13,8 @@ use lib.Dec.{eqb}
 use lib.ListN.{length, getD}
 use Rattle.store.specs.Views.{arityAt}
 use Rattle.store.specs.declared.Terms.{Terms}
-use Rattle.solve_classes.specs.Table.{class, sumTo, root, Table}
+use Rattle.solve_classes.specs.Table.{class, root, Table}
+use Rattle.base.specs.Sum.{sumTo}
 use Rattle.solve_trace.specs.Nodes.{IsFunctor, Formed}
 use Rattle.solve_heights.specs.Nodes.{IsClass, under}
 use Rattle.solve_heights.specs.Peel.{heightAt, left, classes, Stuck, Lower}

@@ -12,8 +12,9 @@ use borrow.Author.Tests.{eq-eqb, ne-eqb}
 use borrow.Author.Count.{below-more}
 use Rattle.store.specs.Views.{arityAt, childAt}
 use Rattle.store.specs.declared.Terms.{Terms}
-use Rattle.solve_classes.specs.Table.{class, sumTo, Table}
-use Rattle.solve_classes.proofs.SumLaws.{sum-most}
+use Rattle.solve_classes.specs.Table.{class, Table}
+use Rattle.base.specs.Sum.{sumTo}
+use Rattle.base.proofs.SumLaws.{sum-most}
 use Rattle.solve_trace.specs.Nodes.{IsFunctor, Formed}
 use Rattle.solve_heights.specs.Nodes.{under}
 use Rattle.solve_heights.specs.Passes.{turned}

@@ -18,7 +18,8 @@ use Rattle.graph.specs.State.{State}
 use Rattle.graph.specs.Closure.{Below}
 use Rattle.store.specs.Views.{arityAt, childAt}
 use Rattle.store.specs.declared.Terms.{Terms}
-use Rattle.solve_classes.specs.Table.{class, sumTo}
+use Rattle.solve_classes.specs.Table.{class}
+use Rattle.base.specs.Sum.{sumTo}
 use Rattle.solve_trace.specs.Nodes.{IsFunctor}
 use Rattle.solve_heights.specs.Nodes.{under}
 use Rattle.solve_heights.specs.Passes.{turned}

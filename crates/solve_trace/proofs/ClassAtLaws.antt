@@ -11,7 +11,7 @@ use lib.Seq.{getD-take}
 use borrow.Author.Tests.{eq-eqb, lt-ltb, le-ltb}
 use Rattle.graph.specs.State.{functor, State, NodeAt, ChildAt, EqualLabels, Proper}
 use Rattle.graph.specs.Lines.{same, downOf}
-use Rattle.graph.proofs.ListLaws.{found-lt}
+use Rattle.base.proofs.ListLaws.{found-lt}
 use Rattle.solve_classes.specs.Table.{class, mergedClass, Merged}
 use Rattle.solve_trace.specs.Trace.{byPlace, Reason, equation, down, Traced, start, merge}
 use Rattle.solve_trace.specs.Replay.{entryClaim, leftEnd, rightEnd, classAt, ByEquation, ByPlace, Justified, Replayed}

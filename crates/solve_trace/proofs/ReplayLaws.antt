@@ -9,7 +9,7 @@ use native.Mathlib.Omega.{arith}
 use lib.ListN.{length, getElem?, getD, take, length-append, List·getD-append}
 use lib.Seq.{take-append-le, take-at}
 use Rattle.graph.specs.State.{functor, Equation, State, NodeAt, ChildAt, Proper}
-use Rattle.graph.proofs.ListLaws.{found-lt}
+use Rattle.base.proofs.ListLaws.{found-lt}
 use Rattle.solve_classes.specs.Table.{class}
 use Rattle.solve_trace.specs.Trace.{Reason, equation, down, Traced, start, merge}
 use Rattle.solve_trace.proofs.TraceLaws.{reason-known}

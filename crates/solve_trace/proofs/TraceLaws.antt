@@ -8,7 +8,7 @@ use lib.ListN.{length, length-append}
 use Rattle.graph.specs.State.{State, IsNode, Proper}
 use Rattle.graph.specs.Closure.{Same, reflexivity, symmetry, transitivity}
 use Rattle.graph.specs.Closure as cl
-use Rattle.graph.proofs.ListLaws.{found-lt}
+use Rattle.base.proofs.ListLaws.{found-lt}
 use Rattle.graph.proofs.ClosureLaws.{child-known}
 use Rattle.solve_classes.specs.Table.{Table, classCount}
 use Rattle.solve_classes.specs.Exact.{Sound}

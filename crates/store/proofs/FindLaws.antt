@@ -7,7 +7,7 @@ use native.Mathlib.Omega.{arith}
 use borrow.Author.Tests.{eq-eqb, ne-eqb}
 use Rattle.graph.specs.State.{Equation}
 use Rattle.graph.specs.Lines.{named}
-use Rattle.graph.specs.Tab.{tab}
+use Rattle.base.specs.Tab.{tab}
 use Rattle.store.specs.Views.{equationAt, equationsOf}
 use Rattle.store.specs.Operations.{First}
 use Rattle.store.specs.declared.Equations.{Equations}

@@ -1,12 +1,10 @@
 -- Laws of the arrays.
---   CaseLaws     two numbers in one order or the other
 --   ViewLaws     the arrays read as lists
 --   BelowLaws    all of a list's numbers below a bound
 --   FindLaws     the first equation of a name
 --   RemoveLaws   the first place of a name, and that place taken out
 --   PutLaws      one node, one equation more at the end
 --   PackLaws     the two views are inverse
-pub mod CaseLaws
 pub mod ViewLaws
 pub mod BelowLaws
 pub mod FindLaws

@@ -11,14 +11,14 @@ use lib.Dec.{eqb}
 use lib.ListN.{length, getD, getElem?, List·getD-eq-default}
 use borrow.Author.Tests.{eqb-true, eqb-false}
 use Rattle.graph.specs.State.{Node, variable, functor, Equation}
-use Rattle.graph.specs.Tab.{tab}
-use Rattle.graph.proofs.ListLaws.{found-lt}
-use Rattle.graph.proofs.TabLaws.{tab-length, tab-at, tab-past, tab-getD, tab-same}
+use Rattle.base.specs.Tab.{tab}
+use Rattle.base.proofs.ListLaws.{found-lt}
+use Rattle.base.proofs.TabLaws.{tab-length, tab-at, tab-past, tab-getD, tab-same}
 use Rattle.store.specs.Views.{kindAt, symbolAt, arityAt, childAt, childrenAt, nodeAt, nodesOf, equationAt, equationsOf, orZero, column, kindOf, symbolOf, arityOf, childOf, packTerms, packEquations}
 use Rattle.store.specs.Shape.{TermsShape, EquationsShape}
 use Rattle.store.specs.declared.Terms.{Terms}
 use Rattle.store.specs.declared.Equations.{Equations}
-use Rattle.store.proofs.CaseLaws.{below-or-from}
+use Rattle.base.proofs.CaseLaws.{below-or-from}
 use Rattle.store.proofs.ViewLaws.{tab-list}
 
 -- ---- columns

@@ -9,14 +9,14 @@ use native.Mathlib.Omega.{arith}
 use lib.ListN.{length, take, getD, set, length-set, List·getD-append}
 use lib.Seq.{getD-set-same, getD-set-other, set-getD, paste, length-paste, take-paste, drop-paste, getD-take, getD-drop, getD-append-add, length-take-le}
 use Rattle.graph.specs.State.{variable, functor, equationOf, nameHeld}
-use Rattle.graph.specs.Tab.{tab}
-use Rattle.graph.proofs.TabLaws.{tab-same, tab-one-more}
+use Rattle.base.specs.Tab.{tab}
+use Rattle.base.proofs.TabLaws.{tab-same, tab-one-more}
 use Rattle.store.specs.Views.{terms, equations, kindAt, symbolAt, arityAt, childAt, childrenAt, nodeAt, nodesOf, equationAt, equationsOf}
 use Rattle.store.specs.Shape.{TermsShape, EquationsShape}
 use Rattle.store.specs.Operations.{withVariable, withFunctor, withEquation, Room, PutsNode, PutsEquation}
 use Rattle.store.specs.declared.Terms.{Terms}
 use Rattle.store.specs.declared.Equations.{Equations}
-use Rattle.store.proofs.CaseLaws.{below-or-from, same-or-other}
+use Rattle.base.proofs.CaseLaws.{below-or-from, same-or-other}
 use Rattle.store.proofs.ViewLaws.{tab-list}
 use Rattle.store.proofs.BelowLaws.{below-each}
 use Rattle.store.proofs.RemoveLaws.{held-at}

@@ -12,13 +12,13 @@ use lib.Seq.{getD-set-same, getD-set-other, ext-getD}
 use borrow.Author.Tests.{eq-eqb, ne-eqb, lt-ltb, le-ltb}
 use Rattle.graph.specs.State.{Equation, nameHeld}
 use Rattle.graph.specs.Book.{removed}
-use Rattle.graph.specs.Tab.{tab}
-use Rattle.graph.proofs.TabLaws.{tab-length, tab-getD, tab-same}
+use Rattle.base.specs.Tab.{tab}
+use Rattle.base.proofs.TabLaws.{tab-length, tab-getD, tab-same}
 use Rattle.store.specs.Views.{equations, equationAt, equationsOf}
 use Rattle.store.specs.Shape.{EquationsShape}
 use Rattle.store.specs.Operations.{First, skip, closed, withoutPlace, Removes}
 use Rattle.store.specs.declared.Equations.{Equations}
-use Rattle.store.proofs.CaseLaws.{below-or-from}
+use Rattle.base.proofs.CaseLaws.{below-or-from}
 
 -- ---- one place taken out of an array
 

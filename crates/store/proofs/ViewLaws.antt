@@ -9,9 +9,9 @@ use lib.Dec.{eqb}
 use lib.ListN.{length, getD, getElem?}
 use borrow.Author.Tests.{eq-eqb, ne-eqb, eqb-true}
 use Rattle.graph.specs.State.{Node, variable, functor, Equation, IsNode, NodeAt, ChildAt, Held, Proper}
-use Rattle.graph.specs.Tab.{tab}
-use Rattle.graph.proofs.ListLaws.{found-lt}
-use Rattle.graph.proofs.TabLaws.{tab-length, tab-at}
+use Rattle.base.specs.Tab.{tab}
+use Rattle.base.proofs.ListLaws.{found-lt}
+use Rattle.base.proofs.TabLaws.{tab-length, tab-at}
 use Rattle.store.specs.Views.{kindAt, symbolAt, arityAt, childAt, childrenAt, nodeAt, nodesOf, equationAt, equationsOf, stateFrom}
 use Rattle.store.specs.Shape.{Shape}
 use Rattle.store.specs.declared.Terms.{Terms}

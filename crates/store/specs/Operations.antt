@@ -14,7 +14,7 @@ use lib.Seq.{paste}
 use lib.Dec.{ltb}
 use Rattle.graph.specs.State.{Node, equationOf, nameHeld}
 use Rattle.graph.specs.Book.{removed, allBelow}
-use Rattle.graph.specs.Tab.{tab}
+use Rattle.base.specs.Tab.{tab}
 use Rattle.store.specs.Views.{terms, equations, nodesOf, equationsOf}
 use Rattle.store.specs.Shape.{TermsShape, EquationsShape}
 use Rattle.store.specs.declared.Terms.{Terms}

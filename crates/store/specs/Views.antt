@@ -12,7 +12,7 @@ use Prim.Native.Nat.{ℕ, _+_, _*_, _/_, _%_}
 use lib.ListN.{length, getD, getElem?, replicate}
 use lib.Dec.{eqb}
 use Rattle.graph.specs.State.{Node, variable, functor, Equation, equationOf, State, stateWith}
-use Rattle.graph.specs.Tab.{tab}
+use Rattle.base.specs.Tab.{tab}
 use Rattle.store.specs.declared.Terms.{Terms}
 use Rattle.store.specs.declared.Equations.{Equations}
 

@@ -12,8 +12,9 @@ use lib.Dec.{eqb, lit<}
 use borrow.Author.Tests.{eqb-true, eqb-false}
 use lib.ListN.{length, getD, set, replicate, length-set, length-replicate, getD-replicate, List·getD-eq-default}
 use lib.Seq.{getD-set-same, getD-set-other}
-use Rattle.store.proofs.CaseLaws.{below-or-from, same-or-other}
-use Rattle.store_shape.specs.Tells.{Each, Distinct}
+use Rattle.base.proofs.CaseLaws.{below-or-from, same-or-other}
+use Rattle.store_shape.specs.Rules.{Distinct}
+use Rattle.base.specs.Tells.{Each}
 use Rattle.store_shape.specs.Bits.{bitAt, BitNoted, Marks}
 
 -- ---- one word

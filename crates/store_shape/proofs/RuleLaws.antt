@@ -8,8 +8,9 @@ use native.Mathlib.Nat.{eq-or-lt-of-le}
 use native.Mathlib.Omega.{arith}
 use lib.Dec.{eqb, ltb, leb}
 use lib.ListN.{getD}
-use Rattle.store_shape.specs.Tells.{Tells, Each, ZeroFrom, Head, ChildRule, NodeRule}
-use Rattle.store_shape.proofs.TellLaws.{tells-yes, tells-same, tells-both, tells-eq, tells-lt, tells-le, tells-more}
+use Rattle.store_shape.specs.Rules.{ZeroFrom, Head, ChildRule, NodeRule}
+use Rattle.base.specs.Tells.{Tells, Each}
+use Rattle.base.proofs.TellLaws.{tells-yes, tells-same, tells-both, tells-eq, tells-lt, tells-le, tells-more}
 
 -- ---- zeros from a place on
 

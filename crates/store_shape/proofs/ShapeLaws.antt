@@ -9,9 +9,10 @@ use native.Mathlib.Omega.{arith}
 use lib.ListN.{length, getD}
 use Rattle.store.specs.Views.{terms, equations}
 use Rattle.store.specs.Shape.{TermsShape, EquationsShape, Shape}
-use Rattle.store.proofs.CaseLaws.{below-or-from}
-use Rattle.store_shape.specs.Tells.{Tells, Each, EachBelow, ZeroFrom, Distinct, NodeRule, EndRules, Sizes, EndSizes}
-use Rattle.store_shape.proofs.TellLaws.{tells-not, tells-same, tells-both}
+use Rattle.base.proofs.CaseLaws.{below-or-from}
+use Rattle.store_shape.specs.Rules.{EachBelow, ZeroFrom, Distinct, NodeRule, EndRules, Sizes, EndSizes}
+use Rattle.base.specs.Tells.{Tells, Each}
+use Rattle.base.proofs.TellLaws.{tells-not, tells-same, tells-both}
 
 -- ---- nodes
 

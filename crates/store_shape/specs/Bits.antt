@@ -8,7 +8,7 @@ use mathlib.Core.List.{List}
 use Prim.Native.Nat.{ℕ, _/_, _%_, _^_, _<_}
 use lib.ListN.{length, getD}
 use lib.Dec.{eqb}
-use Rattle.store_shape.specs.Tells.{Each}
+use Rattle.base.specs.Tells.{Each}
 
 abbrev pub bitAt : List ℕ → ℕ → ℕ
 bitAt l x = getD l (x / 64) 0 / 2 ^ (x % 64) % 2

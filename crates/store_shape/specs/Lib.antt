@@ -1,3 +1,3 @@
--- What the shape test tells, and the bit set of names.
-pub mod Tells
+-- The rules that the shape test goes through, and the bit set of names.
+pub mod Rules
 pub mod Bits

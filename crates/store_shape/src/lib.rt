@@ -5,7 +5,8 @@ ghost use Prim.Native.Nat.{_+_, _*_, _≤_, _<_};
 ghost use lib.ListN.{length, getD};
 ghost use Rattle.store.specs.Views.{terms, equations};
 ghost use Rattle.store.specs.Shape.{TermsShape, EquationsShape, Shape};
-ghost use Rattle.store_shape.specs.Tells.{Tells, Each, EachBelow, ZeroFrom, Distinct, Head, ChildRule, NodeRule, EndRules, Sizes, EndSizes};
+ghost use Rattle.store_shape.specs.Rules.{EachBelow, ZeroFrom, Distinct, Head, ChildRule, NodeRule, EndRules, Sizes, EndSizes};
+ghost use Rattle.base.specs.Tells.{Tells, Each};
 ghost use Rattle.store_shape.specs.Bits.{BitNoted, Marks};
 
 // The loops have no way out in the middle, so that the compiler can take many elements at a time.

@@ -11,8 +11,8 @@ use borrow.Author.Tests.{lt-ltb, lt-leb, le-leb, ltb-true, ltb-false}
 use Rattle.graph.specs.State.{State, Equation, nameHeld, offered}
 use Rattle.graph.specs.Goals.{Goal, clash-goal, cycle-goal, same-goal, below-goal, Judgement, passed, refused, broken-line, shows, Ended, ends, breaks, empty, lastOf, ended, judgeEnd, judge}
 use Rattle.graph.specs.Lines.{Line, Claim, LineClaims, all, broken, onAll, more, claimOf, lineClaims}
-use Rattle.graph.proofs.BoolLaws.{and-left, and-right}
-use Rattle.graph.proofs.TabLaws.{tab-length}
+use Rattle.base.proofs.BoolLaws.{and-left, and-right}
+use Rattle.base.proofs.TabLaws.{tab-length}
 use Rattle.proof_lines.specs.Codec.{lineAt, firstLines, linesOf}
 use Rattle.proof_lines.specs.Proof.{ProofIn}
 use Rattle.proof_check.specs.Answers.{badLength, judgedAs, answerTo}

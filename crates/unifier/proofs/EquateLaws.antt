@@ -9,7 +9,7 @@ use lib.ListN.{length}
 use lib.Dec.{ltb, leb}
 use borrow.Author.Tests.{ltb-true, ltb-false, leb-false}
 use Rattle.graph.specs.State.{State, stateWith, Equation, nameHeld, offered}
-use Rattle.graph.proofs.BoolLaws.{and-left, and-right}
+use Rattle.base.proofs.BoolLaws.{and-left, and-right}
 use Rattle.store.specs.Views.{nodesOf, equationsOf}
 use Rattle.store.specs.Operations.{PutsEquation}
 use Rattle.store.specs.declared.Equations.{Equations}

@@ -8,9 +8,9 @@ use native.Mathlib.Omega.{arith}
 use lib.ListN.{length, getD, getElem?, replicate, length-replicate}
 use Rattle.graph.specs.State.{Node, functor, Equation, State, stateWith, emptyState}
 use Rattle.graph.specs.Solution.{Solution}
-use Rattle.graph.specs.Tab.{tab}
-use Rattle.graph.proofs.ListLaws.{found-lt}
-use Rattle.graph.proofs.TabLaws.{tab-getD}
+use Rattle.base.specs.Tab.{tab}
+use Rattle.base.proofs.ListLaws.{found-lt}
+use Rattle.base.proofs.TabLaws.{tab-getD}
 use Rattle.graph.proofs.StateLaws.{solution-empty}
 use Rattle.store.specs.Views.{terms, equations, nodesOf, equationsOf, orZero, column, arityOf, packTerms, packEquations}
 use Rattle.store.specs.Shape.{TermsShape, EquationsShape, Shape}

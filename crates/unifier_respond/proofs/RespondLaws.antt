@@ -6,7 +6,7 @@ use lib.ListN.{length, take}
 use Rattle.graph.specs.State.{State, stateWith, equationOf, offered}
 use Rattle.graph.specs.Closure.{Below}
 use Rattle.graph.specs.Goals.{clash-goal, cycle-goal}
-use Rattle.graph.proofs.ListLaws.{found-lt}
+use Rattle.base.proofs.ListLaws.{found-lt}
 use Rattle.proof_lines.specs.Proof.{ProofIn}
 use Rattle.store.specs.Views.{nodesOf, stateFrom}
 use Rattle.store.specs.Shape.{Shape}

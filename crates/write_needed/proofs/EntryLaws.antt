@@ -9,7 +9,7 @@ use lib.ListN.{length, getD, take}
 use lib.Seq.{length-take-le, take-all, take-nil, take-append-le, getD-take}
 use borrow.Author.Tests.{lt-ltb, le-ltb}
 use Rattle.graph.specs.State.{State}
-use Rattle.graph.proofs.ListLaws.{found-lt}
+use Rattle.base.proofs.ListLaws.{found-lt}
 use Rattle.solve_classes.specs.Table.{class}
 use Rattle.solve_trace.specs.Trace.{byPlace, Reason, equation, down, Traced, start, merge}
 use Rattle.solve_trace.proofs.TraceLaws.{reason-known, traced-table}

@@ -10,8 +10,8 @@ use Rattle.graph.specs.State.{State, IsNode}
 use Rattle.graph.specs.Lines.{Line, Claim, same, below, byEquation, byChild, downOf, tidy, byRule, claimOf}
 use Rattle.graph.specs.Goals.{ends, lastOf}
 use Rattle.graph.proofs.CheckerLaws.{checked-claim}
-use Rattle.graph.proofs.ListLaws.{found-append, found-last}
-use Rattle.graph.proofs.TabLaws.{tab-none, tab-one-more, tab-same}
+use Rattle.base.proofs.ListLaws.{found-append, found-last}
+use Rattle.base.proofs.TabLaws.{tab-none, tab-one-more, tab-same}
 use Rattle.proof_lines.specs.Codec.{lineAt, firstLines, line, Put}
 use Rattle.proof_lines.specs.Proof.{Kept, Concludes}
 use Rattle.write_runs.specs.Written.{ClaimAt, LinesClaim, More}

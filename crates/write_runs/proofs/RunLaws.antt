@@ -12,7 +12,7 @@ use borrow.Author.Tests.{eq-eqb, ne-eqb, le-leb, lt-leb}
 use Rattle.graph.specs.State.{State, IsNode}
 use Rattle.graph.specs.Lines.{Line, Claim, same}
 use Rattle.solve_classes.specs.Table.{class}
-use Rattle.solve_classes.proofs.SumLaws.{sum-none, sum-more}
+use Rattle.base.proofs.SumLaws.{sum-none, sum-more}
 use Rattle.proof_lines.specs.Codec.{line, Put}
 use Rattle.proof_lines.specs.Proof.{Kept}
 use Rattle.write_runs.specs.Written.{ClaimAt}

@@ -8,7 +8,8 @@ use native.Mathlib.Nat.{eq-or-lt-of-le}
 use native.Mathlib.Omega.{arith}
 use lib.Dec.{eqb, leb}
 use borrow.Author.Tests.{eqb-true, eqb-false, eq-eqb, ne-eqb}
-use Rattle.solve_classes.specs.Table.{class, Fresh, Merged, mergedClass, sumTo, root, classCount}
+use Rattle.solve_classes.specs.Table.{class, Fresh, Merged, mergedClass, root, classCount}
+use Rattle.base.specs.Sum.{sumTo}
 use Rattle.write_runs.specs.Runs.{inClassCount}
 
 -- at i at most one of "lowest of its class" and "in class c" holds, but for i = c

@@ -15,7 +15,8 @@ use lib.ListN.{length, getD}
 use lib.Dec.{eqb}
 use Rattle.graph.specs.State.{State, IsNode}
 use Rattle.graph.specs.Lines.{Claim, same}
-use Rattle.solve_classes.specs.Table.{class, mergedClass, sumTo, classCount}
+use Rattle.solve_classes.specs.Table.{class, mergedClass, classCount}
+use Rattle.base.specs.Sum.{sumTo}
 use Rattle.proof_lines.specs.Proof.{Kept}
 use Rattle.write_runs.specs.Written.{ClaimAt, LinesClaim, More}
 

@@ -8,7 +8,7 @@ use lib.ListN.{length, getD}
 use borrow.Author.Tests.{eq-eqb}
 use Rattle.graph.specs.State.{functor, State, NodeAt, ChildAt, EqualLabels}
 use Rattle.graph.specs.Lines.{same, byEquation, downOf}
-use Rattle.graph.proofs.ListLaws.{found-lt}
+use Rattle.base.proofs.ListLaws.{found-lt}
 use Rattle.solve_classes.specs.Table.{class}
 use Rattle.solve_trace.specs.Trace.{Reason, equation, down}
 use Rattle.solve_trace.specs.Replay.{ByPlace}

@@ -8,8 +8,9 @@ use lib.ListN.{length, getD, take}
 use lib.Seq.{length-take-le, take-suc, take-take, getD-take}
 use Rattle.graph.specs.State.{State, IsNode}
 use Rattle.graph.specs.Lines.{same}
-use Rattle.solve_classes.specs.Table.{class, Fresh, Merged, sumTo}
-use Rattle.solve_classes.proofs.SumLaws.{sum-none, sum-more}
+use Rattle.solve_classes.specs.Table.{class, Fresh, Merged}
+use Rattle.base.specs.Sum.{sumTo}
+use Rattle.base.proofs.SumLaws.{sum-none, sum-more}
 use Rattle.solve_trace.specs.Trace.{Reason, Traced, start, merge}
 use Rattle.solve_trace.proofs.TraceLaws.{reason-known}
 use Rattle.solve_trace.proofs.ReplayLaws as tr

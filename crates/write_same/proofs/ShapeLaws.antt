@@ -9,7 +9,7 @@ use lib.Seq.{length-take-le}
 use borrow.Author.Tests.{eq-eqb, ne-eqb}
 use Rattle.graph.specs.State.{functor, Equation, NodeAt, ChildAt}
 use Rattle.graph.specs.Lines.{same, named, byEquation}
-use Rattle.graph.specs.Tab.{tab}
+use Rattle.base.specs.Tab.{tab}
 use Rattle.store.specs.declared.Terms.{Terms}
 use Rattle.store.specs.declared.Equations.{Equations}
 use Rattle.store.specs.Views.{arityAt, childAt, equationAt, equationsOf, stateFrom}

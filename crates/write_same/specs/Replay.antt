@@ -15,7 +15,8 @@ use Prim.Native.Nat.{ℕ, _+_, _*_, _≤_}
 use lib.ListN.{length, getD, getElem?, take}
 use Rattle.graph.specs.State.{Equation, State, IsNode}
 use Rattle.graph.specs.Lines.{same, byEquation}
-use Rattle.solve_classes.specs.Table.{class, Table, mergedClass, sumTo, classCount}
+use Rattle.solve_classes.specs.Table.{class, Table, mergedClass, classCount}
+use Rattle.base.specs.Sum.{sumTo}
 use Rattle.solve_trace.specs.Trace.{Reason, Traced}
 use Rattle.write_needed.specs.Entries.{Limited, EndsAndChildren}
 use Rattle.write_needed.specs.Trim.{PairsTogether, Joined}

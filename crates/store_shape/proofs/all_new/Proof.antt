@@ -2,7 +2,7 @@ use mathlib.Core.Path.{_≡_}
 use Prim.Native.Nat.{_-_, _≤_}
 use lib.ListN.{length}
 use borrow.Author.Tests.{not-true, not-false}
-use Rattle.store_shape.proofs.TellLaws.{tells-yes, tells-not}
+use Rattle.base.proofs.TellLaws.{tells-yes, tells-not}
 use Rattle.store_shape.proofs.BitLaws.{NewTo, new-none, new-more, new-not}
 use native.Mathlib.Omega.{arith}
 use borrow.Author.Needs.{needs}

@@ -1,6 +1,6 @@
 use lib.ListN.{length}
-use Rattle.store_shape.specs.Tells.{EachBelow, ZeroFrom}
-use Rattle.store_shape.proofs.TellLaws.{tells-at}
+use Rattle.store_shape.specs.Rules.{EachBelow, ZeroFrom}
+use Rattle.base.proofs.TellLaws.{tells-at}
 use Rattle.store_shape.proofs.ShapeLaws.{tells-ends}
 use native.Mathlib.Omega.{arith}
 use borrow.Author.Needs.{needs}

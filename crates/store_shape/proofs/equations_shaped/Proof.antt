@@ -1,5 +1,5 @@
-use Rattle.store_shape.specs.Tells.{Distinct, EndSizes}
-use Rattle.store_shape.proofs.TellLaws.{tells-at}
+use Rattle.store_shape.specs.Rules.{Distinct, EndSizes}
+use Rattle.base.proofs.TellLaws.{tells-at}
 use Rattle.store_shape.proofs.ShapeLaws.{tells-equations, equations-many, tells-then, tells-else}
 use native.Mathlib.Omega.{arith}
 use borrow.Author.Needs.{needs}

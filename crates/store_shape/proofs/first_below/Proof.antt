@@ -1,8 +1,9 @@
 use mathlib.Core.Path.{_≡_}
 use Prim.Native.Nat.{_-_, _≤_, _<_}
 use lib.ListN.{getD}
-use Rattle.store_shape.specs.Tells.{Tells, EachBelow}
-use Rattle.store_shape.proofs.TellLaws.{tells-none, tells-more, tells-lt}
+use Rattle.store_shape.specs.Rules.{EachBelow}
+use Rattle.base.specs.Tells.{Tells}
+use Rattle.base.proofs.TellLaws.{tells-none, tells-more, tells-lt}
 use native.Mathlib.Omega.{arith}
 use borrow.Author.Needs.{needs}
 use Rattle.store_shape.proofs.first_below.Statement.{statement}

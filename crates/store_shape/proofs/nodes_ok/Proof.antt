@@ -1,7 +1,8 @@
 use mathlib.Core.Path.{_≡_}
 use Prim.Native.Nat.{_-_, _≤_}
-use Rattle.store_shape.specs.Tells.{Tells, Each, NodeRule}
-use Rattle.store_shape.proofs.TellLaws.{tells-none, tells-more}
+use Rattle.store_shape.specs.Rules.{NodeRule}
+use Rattle.base.specs.Tells.{Tells, Each}
+use Rattle.base.proofs.TellLaws.{tells-none, tells-more}
 use native.Mathlib.Omega.{arith}
 use borrow.Author.Needs.{needs}
 use Rattle.store_shape.proofs.nodes_ok.Statement.{statement}

@@ -1,8 +1,9 @@
 use mathlib.Core.Path.{_≡_}
 use Prim.Native.Nat.{_+_, _-_, _*_, _≤_}
 use lib.ListN.{getD}
-use Rattle.store_shape.specs.Tells.{Tells, Each, ChildRule}
-use Rattle.store_shape.proofs.TellLaws.{tells-none, tells-more}
+use Rattle.store_shape.specs.Rules.{ChildRule}
+use Rattle.base.specs.Tells.{Tells, Each}
+use Rattle.base.proofs.TellLaws.{tells-none, tells-more}
 use native.Mathlib.Omega.{arith}
 use borrow.Author.Needs.{needs}
 use Rattle.store_shape.proofs.places_ok.Statement.{statement}

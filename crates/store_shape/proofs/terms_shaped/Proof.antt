@@ -1,6 +1,6 @@
 use lib.ListN.{length}
-use Rattle.store_shape.proofs.TellLaws.{tells-at}
-use Rattle.store_shape.specs.Tells.{Sizes, ZeroFrom}
+use Rattle.base.proofs.TellLaws.{tells-at}
+use Rattle.store_shape.specs.Rules.{Sizes, ZeroFrom}
 use Rattle.store_shape.proofs.ShapeLaws.{tells-terms, terms-many}
 use native.Mathlib.Omega.{arith}
 use borrow.Author.Needs.{needs}

@@ -1,7 +1,8 @@
 use mathlib.Core.Path.{_≡_}
 use Prim.Native.Nat.{_-_, _≤_}
 use lib.ListN.{length}
-use Rattle.store_shape.specs.Tells.{Tells, ZeroFrom}
+use Rattle.store_shape.specs.Rules.{ZeroFrom}
+use Rattle.base.specs.Tells.{Tells}
 use Rattle.store_shape.proofs.RuleLaws.{zero-none, zero-more}
 use native.Mathlib.Omega.{arith}
 use borrow.Author.Needs.{needs}

@@ -5,7 +5,7 @@ use Prim.Native.Nat.{ℕ, zero, suc, _+_, _≤_, _<_}
 use native.Mathlib.Nat.{le-of-suc-le-suc, eq-or-lt-of-le, eq-zero-or-pos}
 use native.Mathlib.Numerals.{add-one}
 use native.Mathlib.Omega.{arith}
-use Rattle.solve_classes.specs.Table.{sumTo}
+use Rattle.base.specs.Sum.{sumTo}
 
 pub sum-none : (f : ℕ → ℕ) → sumTo f 0 ≡ 0
 unfolding sumTo

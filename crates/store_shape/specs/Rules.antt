@@ -1,21 +1,12 @@
--- What a test's reply tells, and the rules that the shape test goes through one by one (document 01, "Workspace and terms").
---   Tells       true says that the fact holds, false that it doesn't
---   Each        a fact of every number below n
+-- The rules that the shape test goes through one by one (document 01, "Workspace and terms").
 --   EachBelow, ZeroFrom, Distinct   an array's first n below a bound; zero from place k on; the first n all different
 --   Head, ChildRule, NodeRule       the rules of one node: of its kind, symbol and number of children; of one child place; both
 --   EndRules    the rules of equations, but that names are all different
 use mathlib.Core.Path.{_≡_}
-use mathlib.Core.Bool.{Bool, true, false}
 use mathlib.Core.List.{List}
 use Prim.Native.Nat.{ℕ, _+_, _*_, _≤_, _<_}
 use lib.ListN.{length, getD}
-
-pub record Tells (P : Type 0) (r : Bool) : Type 0 where
-  pub holds : r ≡ true → P
-  pub fails : r ≡ false → P → ⊥
-
-abbrev pub Each : (ℕ → Type 0) → ℕ → Type 0
-Each P n = (i : ℕ) → i < n → P i
+use Rattle.base.specs.Tells.{Each}
 
 abbrev pub EachBelow : List ℕ → ℕ → ℕ → Type 0
 EachBelow l m n = Each (λ i. getD l i 0 < m) n

@@ -7,7 +7,7 @@ use native.Mathlib.Nat.{le-of-suc-le-suc, not-suc-le-zero}
 use native.Mathlib.Numerals.{add-one}
 use native.Mathlib.Omega.{arith}
 use lib.ListN.{length, take, getD, getElem?}
-use Rattle.graph.specs.Tab.{tab}
+use Rattle.base.specs.Tab.{tab}
 
 module _ {A : Type 0} where
   pub tab-none : (f : ℕ → A) → tab 0 f ≡ []

@@ -7,7 +7,7 @@ use native.Mathlib.Nat.{not-suc-le-zero, le-of-suc-le-suc, eq-or-lt-of-le}
 use native.Mathlib.Omega.{arith}
 use lib.Dec.{eqb, ltb, leb}
 use borrow.Author.Tests.{eqb-true, eqb-false, ltb-true, ltb-false, leb-true, leb-false}
-use Rattle.store_shape.specs.Tells.{Tells, Each}
+use Rattle.base.specs.Tells.{Tells, Each}
 
 pub true-is-false : {A : Type 0} → true ≡ false → A
 true-is-false e = absurd (let z : _≡_ {A = ℕ} 0 1 = cc in omega arith)
