@@ -1,13 +1,12 @@
 -- What the search says of a state whose closure the table is: it reaches the classes below u, exactly. And cycles: a node below itself
 -- has a functor node in its class.
 use mathlib.Core.Path.{_≡_, refl, sym, _∙_, ap}
-use mathlib.Core.Bool.{true, false}
 use mathlib.Core.Logic.{inl, inr, ⊎-elim}
 use mathlib.Core.List.{List}
 use mathlib.Core.Option.{some}
 use Prim.Native.Nat.{ℕ, zero, suc, _≤_, _<_}
 use native.Mathlib.Omega.{arith}
-use lib.ListN.{length, getD}
+use lib.ListN.{length, getD, replicate}
 use Rattle.graph.specs.State.{State, functor, IsNode, NodeAt, ChildAt}
 use Rattle.graph.specs.Closure.{Same, reflexivity, symmetry, transitivity, Below, child, same-below, below-same, below-below}
 use Rattle.graph.specs.Lines.{byChild}
@@ -20,12 +19,12 @@ use Rattle.solve_classes.specs.Table.{class, Table}
 use Rattle.solve_classes.specs.Exact.{Exact}
 use Rattle.solve_trace.specs.Nodes.{Nodes, IsFunctor, Formed}
 use Rattle.solve_trace.proofs.NodeLaws.{functor-found, known}
-use Rattle.solve_heights.proofs.CountLaws.{equal-or-not}
+use Rattle.base.proofs.CaseLaws.{same-or-other}
 use Rattle.solve_heights.proofs.PeelLaws.{class-low}
 use Rattle.solve_heights.specs.Peel.{heightAt, Peeled}
 use Rattle.solve_heights.proofs.OutcomeLaws.{child-under, cycle-left}
 use Rattle.solve_reach.specs.Reach.{levelOf, Edge, Searched}
-use Rattle.solve_reach.specs.Search.{Source, Step, Reached, OnCycle}
+use Rattle.solve_reach.specs.Search.{Source, Step, Reached, LeadsBack, MayLeadBack}
 
 -- a child is a step down
 by-child : (s : State) (p f i k : ℕ) (cs : List ℕ) → NodeAt s p (functor f cs) → ChildAt cs i k → byChild (s .nodes) p (suc i) ≡ some (lines.below p k)
@@ -67,7 +66,7 @@ module _ (g : Terms) (s : State) (t parent place into level : List ℕ) (u : ℕ
       (λ n.
       let O = R .ways .onward d d-low a in
       below-below (sound l p (S .functor .known) (O .reached n) (omega (arith, O .bounded n, b, a))) down)
-      (equal-or-not (class t p) (class t u))
+      (same-or-other (class t u) (class t p))
 
   -- down from a source every class was reached
   Leads : ℕ → ℕ → Type 0
@@ -121,34 +120,37 @@ module _ (g : Terms) (s : State) (N : Nodes g s) where
       let S = W .1 .1 in
       (W .0, (W .1 .0, same-below (symmetry S) (below-same b S)))
 
-module _ (g : Terms) (s : State) (t : List ℕ) (h : List ℕ) (n : ℕ) (T : Table t) (F : Formed g) (N : Nodes g s) (E : Exact s t) (P : Peeled g t h n) where
-  -- a class that the peel took has no cycle
-  pub off-cycle : (u c : ℕ) → c ≡ class t u → (heightAt h c ≡ 255 → ⊥) → OnCycle g s u false
-  off-cycle u c e d =
-      record {
-        yes = λ q. absurd (let z : _≡_ {A = ℕ} 0 1 = cc in omega arith);
-        never = λ q U b. d (ap (heightAt h) e ∙ cycle-left g s t h n T F N E P u b);
-      }
+-- ---- searches that may lead back
 
--- the search tells whether u lies below itself
-module _ (g : Terms) (s : State) (t parent place into level : List ℕ) (u c : ℕ) (T : Table t) (F : Formed g) (N : Nodes g s) (E : Exact s t)
-    (u-known : u < g .count) (R : Reached g t parent place into level u) (e : c ≡ class t u) where
-  pub not-below : getD level c 0 ≡ 0 → OnCycle g s u false
-  not-below z =
-      let S = searched g s t parent place into level u T F N E u-known R in
-      record {
-        yes = λ q. absurd (let z : _≡_ {A = ℕ} 0 1 = cc in omega arith);
-        never = λ q U b. omega (arith, S .complete u b, z, ap (λ (x : ℕ). getD level x 0) e);
-      }
+zeros-at : (n i : ℕ) → _≡_ {A = ℕ} (getD (replicate n 0) i 0) 0
+zeros-at zero i = refl
+zeros-at (suc n) zero = refl
+zeros-at (suc n) (suc i) = zeros-at n i
 
-  pub is-below : 1 ≤ getD level c 0 → OnCycle g s u true
-  is-below d =
-      let S = searched g s t parent place into level u T F N E u-known R in
-      record {
-        yes = λ q. S .reached u (known g s N u u-known) (omega (arith, ap (λ (x : ℕ). getD level x 0) e));
-        never = λ q. absurd (let z : _≡_ {A = ℕ} 0 1 = cc in omega arith);
-      }
+module _ (g : Terms) (t : List ℕ) (u : ℕ) {parent place into level : List ℕ} where
+  -- a node that isn't searched from
+  pub not-searched : level ≡ replicate 64 0 → ((s : State) → Nodes g s → Exact s t → IsFunctor g u → Below s u u → ⊥)
+      → MayLeadBack g t u parent place into level
+  not-searched z f =
+      record { leads = λ d. absurd (d (ap (λ (l : List ℕ). getD l (class t u) 0) z ∙ zeros-at 64 (class t u))); never = λ _. f }
 
--- the answer is the node that was found
-pub found : (s : State) (r u : ℕ) → r ≡ u → IsNode s u → Below s u u → IsNode s r × Below s r r
-found s r u e k b = rw e (k, b)
+  module _ (T : Table t) (F : Formed g) (u-known : u < g .count) where
+    -- a class that the peel took has no cycle
+    pub peel-took : (h : List ℕ) (n : ℕ) → Peeled g t h n → (heightAt h (class t u) ≡ 255 → ⊥) → level ≡ replicate 64 0
+        → MayLeadBack g t u parent place into level
+    peel-took h n P d z = not-searched z (λ s N E U b. d (cycle-left g s t h n T F N E P u b))
+
+    pub search-tells : Reached g t parent place into level u → MayLeadBack g t u parent place into level
+    search-tells R =
+        record {
+          leads = λ d. record { known = u-known; reached = R; back = positive (levelOf t level u) d };
+          never = λ z s N E U b. omega (arith, searched g s t parent place into level u T F N E u-known R .complete u b, z);
+        }
+      where
+        positive : (k : ℕ) → (k ≡ 0 → ⊥) → 1 ≤ k
+        positive k n = omega arith
+
+-- the node handed back is the one searched from
+pub led-back : {g : Terms} {t : List ℕ} {u r : ℕ} {parent place into level : List ℕ} → MayLeadBack g t u parent place into level → r ≡ u
+    → (levelOf t level u ≡ 0 → ⊥) → LeadsBack g t r parent place into level
+led-back M e d = rw e (M .leads d)

@@ -7,6 +7,7 @@
 --   Entered   what a step down does
 --   Grown     the reached classes get more
 --   SearchPassed    what the first i turns of a pass over the nodes have done
+--   LeadsBack, MayLeadBack   the search from a node led back to its class; it did, or the node isn't below itself
 use mathlib.Core.Path.{_≡_}
 use mathlib.Core.Bool.{Bool, true, false, cond}
 use mathlib.Core.Logic.{_⊎_}
@@ -19,8 +20,9 @@ use Rattle.graph.specs.Closure.{Below}
 use Rattle.store.specs.Views.{arityAt, childAt}
 use Rattle.store.specs.declared.Terms.{Terms}
 use Rattle.solve_classes.specs.Table.{class}
+use Rattle.solve_classes.specs.Exact.{Exact}
 use Rattle.base.specs.Sum.{sumTo}
-use Rattle.solve_trace.specs.Nodes.{IsFunctor}
+use Rattle.solve_trace.specs.Nodes.{Nodes, IsFunctor}
 use Rattle.solve_heights.specs.Nodes.{under}
 use Rattle.solve_heights.specs.Passes.{turned}
 use Rattle.solve_reach.specs.Reach.{levelOf, Ways}
@@ -108,7 +110,13 @@ pub record Idle (g : Terms) (t level : List ℕ) (u p : ℕ) (r : Bool) : Type 0
 
 -- ---- cycles
 
--- the answer to "functor node u lies below itself"
-pub record OnCycle (g : Terms) (s : State) (u : ℕ) (r : Bool) : Type 0 where
-  pub yes : r ≡ true → Below s u u
-  pub never : r ≡ false → IsFunctor g u → Below s u u → ⊥
+-- the search from u led back to its class
+pub record LeadsBack (g : Terms) (t : List ℕ) (u : ℕ) (parent place into level : List ℕ) : Type 0 where
+  pub known : u < g .count
+  pub reached : Reached g t parent place into level u
+  pub back : 1 ≤ levelOf t level u
+
+-- it did, or functor node u doesn't lie below itself
+pub record MayLeadBack (g : Terms) (t : List ℕ) (u : ℕ) (parent place into level : List ℕ) : Type 0 where
+  pub leads : (levelOf t level u ≡ 0 → ⊥) → LeadsBack g t u parent place into level
+  pub never : levelOf t level u ≡ 0 → (s : State) → Nodes g s → Exact s t → IsFunctor g u → Below s u u → ⊥

@@ -1,17 +1,32 @@
 // The classes strictly below a node, and a node on a cycle.
 use solve_heights::Heights;
-ghost use Prim.Native.Nat.{_+_, _*_, _≤_, _<_};
-ghost use lib.ListN.{getD};
-ghost use Rattle.graph.specs.State.{State, IsNode};
-ghost use Rattle.graph.specs.Closure.{Below, Cycle};
+ghost use Prim.Native.Nat.{ℕ, _+_, _*_, _≤_, _<_};
+ghost use lib.ListN.{getD, replicate};
+ghost use Rattle.graph.specs.State.{State};
+ghost use Rattle.graph.specs.Closure.{Cycle};
 ghost use Rattle.store.specs.Views.{terms};
 ghost use Rattle.solve_classes.specs.Table.{Table};
 ghost use Rattle.solve_classes.specs.Exact.{Exact};
 ghost use Rattle.solve_trace.specs.Nodes.{Nodes, Formed};
 ghost use Rattle.solve_heights.specs.Peel.{Peeled};
-ghost use Rattle.solve_reach.specs.Search.{Reached, Reaching, Entered, Expanded, SearchPassed, Idle, OnCycle};
+ghost use Rattle.solve_reach.specs.Search.{Reached, Reaching, Entered, Expanded, SearchPassed, Idle, MayLeadBack, LeadsBack};
 ghost use mathlib.Core.Path.{_≡_};
 ghost use Rattle.store.specs.declared.Terms.{Terms};
+
+// How each class below a node was reached, by class number: the parent of the step down into it, the place, the child there, and a level
+// that falls on the way up. Level 0: not reached.
+pub struct Search {
+    pub parent: [u8; 64],
+    pub place: [u8; 64],
+    pub into: [u8; 64],
+    pub level: [u8; 64],
+}
+
+// A node, and the search from it that led back to its class.
+pub struct Circle {
+    pub node: u8,
+    pub search: Search,
+}
 
 // Looks at the child of `p` at place `j`: where its class was not reached, it is now. Hands back how many were.
 fn enter(
@@ -33,7 +48,7 @@ fn enter(
         (now (parent .exit)) (now (place .exit)) (now (into .exit)) (now (level .exit)) r ⌝ }
 {
     let k = child[4 * p + j];
-    let d = solve_trace::wide(table[solve_trace::wide(k)]);
+    let d = base::wide(table[base::wide(k)]);
     if level[d] != 0 {
         return reached;
     }
@@ -64,8 +79,8 @@ fn idle(
     if kind[p] != 1 {
         return true;
     }
-    let c = solve_trace::wide(table[p]);
-    if c == solve_trace::wide(table[u]) {
+    let c = base::wide(table[p]);
+    if c == base::wide(table[u]) {
         return false;
     }
     if level[c] == 0 {
@@ -102,7 +117,7 @@ fn expand(
     if idle(table, level, u, p, n, kind, symbol, arity, child) {
         return reached;
     }
-    let k = solve_trace::wide(arity[p]);
+    let k = base::wide(arity[p]);
     let mut r = reached;
     let mut j: usize = 0;
     while j < k {
@@ -214,93 +229,82 @@ fn rounds(
 // which counts as reached only where a way down leads back to it.
 pub fn reach(
     table: [u8; 64],
-    parent: &mut [u8; 64],
-    place: &mut [u8; 64],
-    into: &mut [u8; 64],
-    level: &mut [u8; 64],
     u: u8,
     n: usize,
     kind: &[u8; 64],
     symbol: &[u16; 64],
     arity: &[u8; 64],
     child: &[u8; 256],
-)
+) -> Search
     ghost { Terms }
     requires { λ g. ⌜ terms n (now kind) (now symbol) (now arity) (now child) ≡ g ⌝ }
     requires { λ g. ⌜ Table table ⌝ }
     requires { λ g. ⌜ Formed g ⌝ }
     requires { λ g. ⌜ u < n ⌝ }
-    ensures { λ g r. ⌜ Reached g table
-        (now (parent .exit)) (now (place .exit)) (now (into .exit)) (now (level .exit)) u ⌝ }
+    ensures { λ g r. ⌜ Reached g table (r .parent) (r .place) (r .into) (r .level) u ⌝ }
 {
-    *parent = [0u8; 64];
-    *place = [0u8; 64];
-    *into = [0u8; 64];
-    *level = [0u8; 64];
+    let mut parent = [0u8; 64];
+    let mut place = [0u8; 64];
+    let mut into = [0u8; 64];
+    let mut level = [0u8; 64];
     rounds(
         &table,
-        parent,
-        place,
-        into,
-        level,
-        solve_trace::wide(u),
+        &mut parent,
+        &mut place,
+        &mut into,
+        &mut level,
+        base::wide(u),
         n,
         kind,
         symbol,
         arity,
         child,
     );
+    Search {
+        parent,
+        place,
+        into,
+        level,
+    }
 }
 
-// Whether functor node `u` lies below itself. A class that the peel took isn't searched.
-fn on_cycle(
+fn nothing_reached() -> Search
+    ensures { λ r. ⌜ r .level ≡ replicate 64 0 ⌝ }
+{
+    Search {
+        parent: [0; 64],
+        place: [0; 64],
+        into: [0; 64],
+        level: [0; 64],
+    }
+}
+
+// The search from node `u`, where it may lead back: a variable isn't searched from, nor a class that the peel took.
+fn search_from(
     table: [u8; 64],
-    heights: Heights,
+    height: &[u8; 64],
     u: usize,
     n: usize,
     kind: &[u8; 64],
     symbol: &[u16; 64],
     arity: &[u8; 64],
     child: &[u8; 256],
-) -> bool
+) -> Search
     ghost { Terms }
     requires { λ g. ⌜ terms n (now kind) (now symbol) (now arity) (now child) ≡ g ⌝ }
     requires { λ g. ⌜ Table table ⌝ }
     requires { λ g. ⌜ Formed g ⌝ }
-    requires { λ g. ⌜ Peeled g table (heights .height) (heights .left) ⌝ }
+    requires { λ g. ⌜ ((left : ℕ) × Peeled g table (now height) left) ⌝ }
     requires { λ g. ⌜ u < n ⌝ }
-    ensures { λ g r. ⌜ ((s : State) → Nodes g s
-        → Exact s table → OnCycle g s u r) ⌝ }
+    ensures { λ g r. ⌜ MayLeadBack g table u (r .parent) (r .place) (r .into) (r .level) ⌝ }
 {
     if kind[u] != 1 {
-        return false;
+        return nothing_reached();
     }
-    let c = solve_trace::wide(table[u]);
-    let height = heights.height;
-    if height[c] != 255 {
-        return false;
+    if height[base::wide(table[u])] != 255 {
+        return nothing_reached();
     }
-    let mut parent = [0u8; 64];
-    let mut place = [0u8; 64];
-    let mut into = [0u8; 64];
-    let mut level = [0u8; 64];
-    reach(
-        table,
-        &mut parent,
-        &mut place,
-        &mut into,
-        &mut level,
-        u as u8,
-        n,
-        kind,
-        symbol,
-        arity,
-        child,
-    );
-    if level[c] != 0 {
-        return true;
-    }
-    false
+    reach(table, u as u8, n, kind, symbol, arity, child)
 }
 
 // A node below itself, where the peel left something.
@@ -312,21 +316,28 @@ pub fn find_cycle(
     symbol: &[u16; 64],
     arity: &[u8; 64],
     child: &[u8; 256],
-) -> u8
+) -> Circle
     ghost { Terms }
     requires { λ g. ⌜ terms n (now kind) (now symbol) (now arity) (now child) ≡ g ⌝ }
     requires { λ g. ⌜ Table table ⌝ }
     requires { λ g. ⌜ Formed g ⌝ }
     requires { λ g. ⌜ Peeled g table (heights .height) (heights .left) ⌝ }
-    ensures { λ g r. ⌜ ((s : State) → Nodes g s
-        → Exact s table → Cycle s → IsNode s r × Below s r r) ⌝ }
+    ensures { λ g r. ⌜ ((s : State) → Nodes g s → Exact s table → Cycle s
+        → LeadsBack g table (r .node) (r .search .parent) (r .search .place) (r .search .into) (r .search .level)) ⌝ }
 {
     let mut u: usize = 0;
     while u < n {
-        if on_cycle(table, heights, u, n, kind, symbol, arity, child) {
-            return u as u8;
+        let s = search_from(table, &heights.height, u, n, kind, symbol, arity, child);
+        if s.level[base::wide(table[u])] != 0 {
+            return Circle {
+                node: u as u8,
+                search: s,
+            };
         }
         u += 1;
     }
-    0
+    Circle {
+        node: 0,
+        search: nothing_reached(),
+    }
 }

@@ -7,7 +7,7 @@ use Rattle.solve_reach.proofs.reach.Tie as tie
 
 rounds-requires : tie.Need-rounds-requires
 rounds-requires c κs =
-    let s = c .before .before .before .before .before .before .before .before .before .before in
+    let s = c .before .before .before .before .before .before in
     (s .pre .0, (s .pre .1 .0, (omega (arith, c .wide .ensures, s .pre .1 .1), reach-start _ _ _)))
 
 returns : tie.Need-returns
