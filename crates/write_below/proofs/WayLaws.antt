@@ -13,7 +13,7 @@ use Rattle.write_needed.specs.Trim.{PairsTogether}
 use Rattle.solve_reach.specs.Reach.{levelOf, Ways, Edge, Edges}
 use Rattle.write_runs.proofs.Claims.{concludes, kept-kept}
 use Rattle.write_same.specs.Replay.{Prepared}
-use Rattle.write_below.specs.Chain.{walk, WayNoted, OnTheWay, Way, Chain, Ascended, Lowered}
+use Rattle.write_below.specs.Chain.{walk, WayNoted, OnTheWay, Way, Top, Chain, Ascended, Lowered, Circled}
 use Rattle.write_below.proofs.ChainLaws.{class-small}
 
 module _ {t parent into level : List ℕ} {u v : ℕ} (T : Table t) (W : Ways t parent into level u) where
@@ -97,6 +97,18 @@ module _ {t parent into level : List ℕ} {u v l : ℕ} {xs ys : List ℕ} (T : 
   pub way-last-class : class t (getD ys (l - 1) 0) < 64
   way-last-class = class-small T _ way-last
 
+  pub way-begins : {p : ℕ} → p ≡ getD parent (class t (getD ys (l - 1) 0)) 0 → Top t parent level u p
+  way-begins {p} q =
+      let h : l - 1 < l = omega (arith, Y .some-steps) in
+      let e : getD ys (l - 1) 0 ≡ walk t parent v (l - 1) = Y .noted .nodes (l - 1) h in
+      record {
+        d = class t (getD ys (l - 1) 0);
+        small = way-last-class;
+        reached = rw e (Y .noted .reached (l - 1) h);
+        leads = sym q;
+        in-class = ap (class t) (q ∙ way-top) ∙ Y .end;
+      }
+
   module _ {place : List ℕ} (s : State) (E : Edges s t parent place into level) (kv : IsNode s v) where
     edge : (i : ℕ) → i < l
         → Edge s t (class t (walk t parent v i)) (walk t parent v (suc i)) (getD place (class t (walk t parent v i)) 0) (getD into (class t (walk t parent v i)) 0)
@@ -135,4 +147,39 @@ module _ {t parent into level : List ℕ} {u v l : ℕ} {xs ys : List ℕ} (T : 
             let q : class (R .table) (walk t parent v l) ≡ class (R .table) u = ap (class (R .table)) (sym e) ∙ sym (R .joined) in
             let a = A .more s (p .claims) (class (R .table)) (p .written) (p .number) (way-chain s E kv (R .table) (R .pairs)) ku q in
             concludes s (m - 1) (omega (arith, A .low)) (a .written) (a .last);
+      }
+
+-- ---- a way that leads back, from the node at which it begins
+
+module _ {t parent level : List ℕ} {u p : ℕ} (B : Top t parent level u p) where
+  pub top-small : {into : List ℕ} → Ways t parent into level u → p < 64
+  top-small W = rw (B .leads) at (W .parents (B .d) (B .small))
+
+  -- a search from u is one from each node of its class
+  pub top-ways : {into : List ℕ} → Ways t parent into level u → Ways t parent into level p
+  top-ways W =
+      record {
+        parents = W .parents;
+        childs = W .childs;
+        top = W .top;
+        onward = λ d h r.
+            let O = W .onward d h r in
+            record { reached = λ n. O .reached (λ e. n (e ∙ sym (B .in-class))); bounded = λ n. O .bounded (λ e. n (e ∙ sym (B .in-class))) };
+      }
+
+  pub top-back : 1 ≤ levelOf t level u → 1 ≤ levelOf t level p
+  top-back h = rw (B .in-class) h
+
+  pub circled : {nodes : ℕ} {name left right child trace place into buf out : List ℕ} {k m : ℕ}
+      → Lowered nodes name left right child trace k t parent place into level buf p p out m
+      → Circled nodes name left right child trace k t parent place into level buf out m
+  circled L =
+      record {
+        node = p;
+        some-lines = L .some-lines;
+        high = L .high;
+        kept = L .kept;
+        shown = λ s D T E.
+            let k : IsNode s p = rw (B .leads) at (E .at (B .d) (B .small) (B .reached) .parent-known) in
+            (k, L .shown s D T E k k);
       }

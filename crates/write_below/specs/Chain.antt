@@ -1,12 +1,14 @@
 -- Lines that end in u below v, along a way down. specs/Reach of `solve_reach` has the arrays parent, place, into (there child) and level.
 --   walk       the nodes on the way up from v: each is the parent that leads to the class of the one before
 --   WayNoted, OnTheWay, Way   l steps lead up from v to u's class
+--   Top        the node of u's class at which a way down begins
 --   Chain      each step is one of the state, between nodes that c has in one class
 --   Descended  p below q, by a step down from p to q's class
 --   Risen      p below w, from q below w
 --   Arrived    u below v, from q below v, where q is of u's class
 --   Climbing, Climbed, Ascended   all the steps of a way, from its lower end up
 --   Lowered    lines that end in u below v
+--   Circled    lines that end in a node below itself
 -- A promise is made for every state s and all claims cs that the lines so far have.
 use mathlib.Core.Path.{_≡_}
 use mathlib.Core.List.{List}
@@ -50,6 +52,14 @@ pub record Way (t parent into level : List ℕ) (u v l : ℕ) (xs ys : List ℕ)
   pub few : l ≤ 64
   pub noted : WayNoted t parent into level v l xs ys
   pub end : class t (walk t parent v l) ≡ class t u
+
+-- p, in u's class, is the parent that leads to a class which was reached
+pub record Top (t parent level : List ℕ) (u p : ℕ) : Type 0 where
+  pub d : ℕ
+  pub small : d < 64
+  pub reached : 1 ≤ getD level d 0
+  pub leads : getD parent d 0 ≡ p
+  pub in-class : class t p ≡ class t u
 
 -- k, the child of p at place i, is in one class with q
 pub record Link (s : State) (c : ℕ → ℕ) (q p i k : ℕ) : Type 0 where
@@ -123,3 +133,11 @@ pub record Lowered (nodes : ℕ) (name left right child trace : List ℕ) (l : �
   pub kept : Kept m buf out
   pub shown : (s : State) → Describes nodes name left right child s → Traced s (take l trace) t → Edges s t parent place into level → IsNode s u → IsNode s v
       → Concludes s (below u v) m out
+
+pub record Circled (nodes : ℕ) (name left right child trace : List ℕ) (l : ℕ) (t parent place into level buf out : List ℕ) (m : ℕ) : Type 0 where
+  pub node : ℕ
+  pub some-lines : 1 ≤ m
+  pub high : m ≤ nodes + 2716
+  pub kept : Kept m buf out
+  pub shown : (s : State) → Describes nodes name left right child s → Traced s (take l trace) t → Edges s t parent place into level
+      → IsNode s node × Concludes s (below node node) m out

@@ -1,12 +1,13 @@
 // Lines that end in u below v: from v back up to u, a step down at a time. For each node, `to` has the number of a line that
 // claims the node same its class number; `parent`, `place`, `into` and `level` say how each class was reached from u: see `solve_reach`.
+use solve_reach::Search;
 ghost use mathlib.Core.Path.{_≡_};
 ghost use Prim.Native.Nat.{ℕ, _+_, _-_, _≤_, _<_};
 ghost use lib.ListN.{length, getD};
 ghost use Rattle.solve_classes.specs.Table.{Table};
 ghost use Rattle.solve_reach.specs.Reach.{levelOf, Ways};
 ghost use Rattle.write_needed.specs.Entries.{AllInRange};
-ghost use Rattle.write_below.specs.Chain.{Descended, Risen, Arrived, Climbed, Way, Ascended, Lowered};
+ghost use Rattle.write_below.specs.Chain.{Descended, Risen, Arrived, Climbed, Way, Top, Ascended, Lowered, Circled};
 
 fn wide(x: u8) -> u16
     ensures { λ r. ⌜ r ≡ x ⌝ }
@@ -95,11 +96,11 @@ fn climb(
 }
 
 // The way up from v to u's class: how many steps, and for each the child that it leads to and the lower node, which are of one class.
-fn way(
+fn way<'a>(
     table: [u8; 64],
-    parent: &[u8; 64],
-    into: &[u8; 64],
-    level: &[u8; 64],
+    parent: &'a [u8; 64],
+    into: &'a [u8; 64],
+    level: &'a [u8; 64],
     u: u8,
     v: u8,
     xs: &mut [u8; 64],
@@ -125,14 +126,14 @@ fn way(
 }
 
 // Lines that end in u below v, `l` steps up from v.
-fn ascend(
+fn ascend<'a>(
     buf: &mut [u8],
     n: usize,
     table: [u8; 64],
     to: &[u16; 64],
-    parent: &[u8; 64],
-    place: &[u8; 64],
-    into: &[u8; 64],
+    parent: &'a [u8; 64],
+    place: &'a [u8; 64],
+    into: &'a [u8; 64],
     u: u8,
     v: u8,
     l: usize,
@@ -159,7 +160,29 @@ fn ascend(
     climb(buf, m, table, to, parent, place, into, u, p, l)
 }
 
-// Lines that end in u below v, where `table` is the trace's and v's class was reached from u. A cycle is u below u.
+// The node of u's class at which the way down from u that leads back to it begins.
+fn top(table: [u8; 64], search: Search, u: u8) -> u8
+    requires { ⌜ (u < 64) × (Ways table (search .parent) (search .into) (search .level) u × (1 ≤ levelOf table (search .level) u)) ⌝ }
+    requires { ⌜ Table table ⌝ }
+    ensures { λ r. ⌜ Top table (search .parent) (search .level) u r ⌝ }
+{
+    let mut xs = [0u8; 64];
+    let mut ys = [0u8; 64];
+    let l = way(
+        table,
+        &search.parent,
+        &search.into,
+        &search.level,
+        u,
+        u,
+        &mut xs,
+        &mut ys,
+    );
+    let last = table[ys[l - 1] as usize];
+    search.parent[last as usize]
+}
+
+// Lines that end in u below v, where `table` is the trace's and the search from u reached v's class.
 pub fn explain_below<'a>(
     buf: &mut [u8],
     nodes: usize,
@@ -170,24 +193,30 @@ pub fn explain_below<'a>(
     right: &'a [u8; 256],
     child: &'a [u8; 256],
     table: [u8; 64],
-    parent: &[u8; 64],
-    place: &[u8; 64],
-    into: &[u8; 64],
-    level: &[u8; 64],
+    search: Search,
     u: u8,
     v: u8,
 ) -> usize
     requires { ⌜ (nodes ≤ 64) × ((steps ≤ 63) × (65536 ≤ length (now buf))) ⌝ }
     requires { ⌜ (length (now trace) ≡ 64) × AllInRange (now trace) steps (now left) (now right) (now child) ⌝ }
-    requires { ⌜ (u < 64) × ((v < 64) × (Ways table (now parent) (now into) (now level) u × (1 ≤ levelOf table (now level) v))) ⌝ }
+    requires { ⌜ (u < 64) × ((v < 64) × (Ways table (search .parent) (search .into) (search .level) u × (1 ≤ levelOf table (search .level) v))) ⌝ }
     requires { ⌜ Table table ⌝ }
-    ensures { λ r. ⌜ Lowered nodes (now (name .entry)) (now (left .entry)) (now (right .entry)) (now (child .entry)) (now (trace .entry)) steps table (now (parent .entry)) (now (place .entry)) (now (into .entry)) (now (level .entry)) (now (buf .entry)) u v (now (buf .exit)) r ⌝ }
+    ensures { λ r. ⌜ Lowered nodes (now (name .entry)) (now (left .entry)) (now (right .entry)) (now (child .entry)) (now (trace .entry)) steps table (search .parent) (search .place) (search .into) (search .level) (now (buf .entry)) u v (now (buf .exit)) r ⌝ }
 {
     let mut xs = [0u8; 64];
     let mut ys = [0u8; 64];
-    let l = way(table, parent, into, level, u, v, &mut xs, &mut ys);
+    let l = way(
+        table,
+        &search.parent,
+        &search.into,
+        &search.level,
+        u,
+        v,
+        &mut xs,
+        &mut ys,
+    );
     let last = table[ys[l - 1] as usize];
-    let top = parent[last as usize];
+    let first = search.parent[last as usize];
     let mut to = [0u16; 64];
     let n = write_same::prepare(
         buf,
@@ -199,11 +228,60 @@ pub fn explain_below<'a>(
         right,
         child,
         u,
-        top,
+        first,
         &xs,
         &ys,
         l,
         &mut to,
     );
-    ascend(buf, n, table, &to, parent, place, into, u, v, l)
+    ascend(
+        buf,
+        n,
+        table,
+        &to,
+        &search.parent,
+        &search.place,
+        &search.into,
+        u,
+        v,
+        l,
+    )
+}
+
+// Lines that end in p below p, where the search from u led back to its class: p is the node of that class at which the way down begins.
+// From u itself the lines would go to p and back again, each time that they are unfolded.
+pub fn explain_cycle<'a>(
+    buf: &mut [u8],
+    nodes: usize,
+    trace: &[u16; 64],
+    steps: usize,
+    name: &[u16; 256],
+    left: &'a [u8; 256],
+    right: &'a [u8; 256],
+    child: &'a [u8; 256],
+    table: [u8; 64],
+    search: Search,
+    u: u8,
+) -> usize
+    requires { ⌜ (nodes ≤ 64) × ((steps ≤ 63) × (65536 ≤ length (now buf))) ⌝ }
+    requires { ⌜ (length (now trace) ≡ 64) × AllInRange (now trace) steps (now left) (now right) (now child) ⌝ }
+    requires { ⌜ (u < 64) × (Ways table (search .parent) (search .into) (search .level) u × (1 ≤ levelOf table (search .level) u)) ⌝ }
+    requires { ⌜ Table table ⌝ }
+    ensures { λ r. ⌜ Circled nodes (now (name .entry)) (now (left .entry)) (now (right .entry)) (now (child .entry)) (now (trace .entry)) steps table (search .parent) (search .place) (search .into) (search .level) (now (buf .entry)) (now (buf .exit)) r ⌝ }
+{
+    let p = top(table, search, u);
+    explain_below(
+        buf,
+        nodes,
+        trace,
+        steps,
+        name,
+        left,
+        right,
+        child,
+        table,
+        search,
+        p,
+        p,
+    )
 }

@@ -7,28 +7,26 @@ use Rattle.write_below.proofs.explain_below.Tie as tie
 
 cast-last : tie.Need-cast-last
 cast-last c =
-    let S = c .before .before .before .before in
-    omega (arith, way-last (S .pre .1 .1 .1) (S .pre .1 .1 .0 .1 .1 .0) (S .pre .1 .1 .0 .1 .0) (c .way .ensures))
+    let S = c .before .before .before .before .before .before .before .before in
+    let D = S .pre .1 .1 .0 in
+    omega (arith, way-last (S .pre .1 .1 .1) (D .1 .1 .0) (D .1 .0) (c .way .ensures))
 
 array-read-last-2 : tie.Need-array-read-last-2
 array-read-last-2 c =
-    let S = c .before .before .before .before in
-    omega (arith, way-last (S .pre .1 .1 .1) (S .pre .1 .1 .0 .1 .1 .0) (S .pre .1 .1 .0 .1 .0) (c .way .ensures))
+    let S = c .before .before .before .before .before .before .before .before in
+    let D = S .pre .1 .1 .0 in
+    omega (arith, way-last (S .pre .1 .1 .1) (D .1 .1 .0) (D .1 .0) (c .way .ensures))
 
-cast-top : tie.Need-cast-top
-cast-top c =
-    let S = c .before .before .before .before in
-    omega (arith, way-last-class (S .pre .1 .1 .1) (S .pre .1 .1 .0 .1 .1 .0) (S .pre .1 .1 .0 .1 .0) (c .way .ensures))
-
-element-copy-out-top : tie.Need-element-copy-out-top
-element-copy-out-top c =
-    let S = c .before .before .before .before in
-    omega (arith, way-last-class (S .pre .1 .1 .1) (S .pre .1 .1 .0 .1 .1 .0) (S .pre .1 .1 .0 .1 .0) (c .way .ensures))
+element-copy-out-first : tie.Need-element-copy-out-first
+element-copy-out-first c =
+    let S = c .before .before .before .before .before .before .before .before in
+    let D = S .pre .1 .1 .0 in
+    omega (arith, way-last-class (S .pre .1 .1 .1) (D .1 .1 .0) (D .1 .0) (c .way .ensures))
 
 prepare-requires : tie.Need-prepare-requires
 prepare-requires c κs =
     let w = c .before .before .before .before .before in
-    let S = w .before .before .before .before in
+    let S = w .before .before .before .before .before .before .before .before in
     let T = S .pre .1 .1 .1 in
     let D = S .pre .1 .1 .0 in
     let Y = w .way .ensures in
@@ -48,9 +46,10 @@ prepare-requires c κs =
 
 ascend-requires : tie.Need-ascend-requires
 ascend-requires c κs =
-    let P = c .before .before .before .before .prepare .ensures in
-    let w = c .before .before .before .before .before .before .before .before .before .before in
-    let S = w .before .before .before .before in
+    let p = c .before .before .before .before .before .before .before .before in
+    let P = p .prepare .ensures in
+    let w = p .before .before .before .before .before .before in
+    let S = w .before .before .before .before .before .before .before .before in
     let D = S .pre .1 .1 .0 in
     let Y = w .way .ensures in
     let W = D .1 .1 .0 in (
@@ -60,13 +59,13 @@ ascend-requires c κs =
 
 returns : tie.Need-returns
 returns c =
-    let w = c .before .before .before .before .before .before .before .before .before .before .before .before .before in
-    let S = w .before .before .before .before in
-    let T = S .pre .1 .1 .1 in
+    let a = c .before .before in
+    let p = a .before .before .before .before .before .before .before .before .before in
+    let w = p .before .before .before .before .before .before in
+    let S = w .before .before .before .before .before .before .before .before in
     let D = S .pre .1 .1 .0 in
     let Y = w .way .ensures in
-    let W = D .1 .1 .0 in
-    lowered T W (D .1 .0) Y (S .pre .0 .0) (way-top T W (D .1 .0) Y) (c .before .before .before .before .before .before .before .prepare .ensures) (c .before .before .ascend .ensures)
+    lowered (S .pre .1 .1 .1) (D .1 .1 .0) (D .1 .0) Y (S .pre .0 .0) (way-top (S .pre .1 .1 .1) (D .1 .1 .0) (D .1 .0) Y) (p .prepare .ensures) (a .ascend .ensures)
 
 pub explain-below-spec : {M : Type 1} → statement M
 explain-below-spec =
@@ -77,8 +76,8 @@ explain-below-spec =
     (λ c. search needs)
     cast-last
     array-read-last-2
-    cast-top
-    element-copy-out-top
+    (λ c. search needs)
+    element-copy-out-first
     prepare-requires
     ascend-requires
     (λ c. search needs)
