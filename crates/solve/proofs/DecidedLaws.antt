@@ -5,8 +5,7 @@ use mathlib.Core.List.{List}
 use Prim.Native.Nat.{ℕ, _≤_}
 use native.Mathlib.Omega.{arith}
 use lib.ListN.{getD}
-use Rattle.graph.specs.State.{State, IsNode}
-use Rattle.graph.specs.Closure.{Below}
+use Rattle.graph.specs.State.{State}
 use Rattle.graph.specs.Solution.{Solution}
 use Rattle.graph.specs.Verdict.{clashes, cycles}
 use Rattle.graph.proofs.SolutionLaws.{classes-no-clash, solution-verdict}
@@ -19,7 +18,7 @@ use Rattle.solve_trace.proofs.NodeLaws.{functor-found}
 use Rattle.solve_trace.proofs.StepLaws.{ready-room}
 use Rattle.solve_heights.specs.Peel.{heightAt, Peeled}
 use Rattle.solve_heights.proofs.PeelLaws.{is-class, none-left}
-use Rattle.solve_heights.proofs.OutcomeLaws.{child-under}
+use Rattle.solve_heights.proofs.OutcomeLaws.{child-under, cycle}
 use Rattle.solve_closure.specs.Rounds.{Clashing}
 use Rattle.solve_closure.specs.Settled.{RoundsEnded, Settled}
 use Rattle.solve.specs.Judging.{Judging}
@@ -95,15 +94,17 @@ module _ (g : Terms) (s : State) (F : Formed g) (N : Nodes g s) (t tr : List ℕ
           because = record { exact = D .exact q; solution = S; classes = λ u. D .exact q .table u; heights = λ u. refl };
         }
 
-  pub decided-cycle : (h : List ℕ) (x : ℕ) → clash ≡ false → IsNode s x → Below s x x → Decided s t h tr k (Cycle x)
-  decided-cycle h x q l b =
-      record {
-        proper = D .proper;
-        verdict = cycles (classes-no-clash s (D .exact q .classes)) (record { u = x; back = b });
-        ready = D .ended .ready;
-        few = few;
-        traced = D .traced;
-        sound = D .sound;
-        exact = λ d. D .exact q;
-        because = record { exact = D .exact q; known = l; back = b };
-      }
+    pub decided-cycle : (n ≡ 0 → ⊥) → Decided s t h tr k Cycle
+    decided-cycle z =
+        let E = D .exact q in
+        let C = cycle g s t h n (D .ended .ready .table) F N E P z in
+        record {
+          proper = D .proper;
+          verdict = cycles (classes-no-clash s (E .classes)) C;
+          ready = D .ended .ready;
+          few = few;
+          traced = D .traced;
+          sound = D .sound;
+          exact = λ d. E;
+          because = record { exact = E; cycle = C };
+        }

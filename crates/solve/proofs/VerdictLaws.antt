@@ -34,7 +34,7 @@ module _ {s : State} where
   says-solved : (t h : List ℕ) (w : Finding) → number w ≡ 0 → Because s t h w → Solution s
   says-solved t h v.Solved e b = b .solution
   says-solved t h (v.Clash x y) e b = absurd (omega arith)
-  says-solved t h (v.Cycle x) e b = absurd (omega arith)
+  says-solved t h v.Cycle e b = absurd (omega arith)
 
 module _ {s : State} {t h tr : List ℕ} {n : ℕ} {w : Finding} (D : Decided s t h tr n w) where
   pub clash-just : (number w ≡ 8) ↔ Clash s

@@ -1,21 +1,24 @@
--- The verdict on a state, with its reason: a solution, two functor nodes that clash, or a node below itself.
+-- The verdict on a state, with its reason: a solution, two functor nodes that clash, or a cycle.
 --   number    document 01's number of a verdict: 0 solved, 8 clash, 9 cycle
 --   Solving   the table and heights are a solution; node u's height is the height of its class
 --   Clashes   the table joins two functor nodes of different labels, and what it joins stands in the closure
---   Circles   the table is the closure, and node u lies below itself
+--   Circles   the table is the closure, and some node lies below itself
+--   LeftOver  the heights are the peel's, where there is no clash: by them `solve_reach` finds a cycle
 --   Decided   the verdict is that of `graph`, the trace made the table, and the verdict has its reason
 --   Resumable     the table and trace of a state that was decided without a clash: what an offered equation goes on from
 use mathlib.Core.Path.{_≡_}
 use mathlib.Core.List.{List}
 use Prim.Native.Nat.{ℕ, _≤_}
 use lib.ListN.{getD, take}
-use Rattle.graph.specs.State.{State, functor, IsNode, NodeAt, EqualLabels, Proper}
-use Rattle.graph.specs.Closure.{Below}
+use Rattle.graph.specs.State.{State, functor, NodeAt, EqualLabels, Proper}
+use Rattle.graph.specs.Closure as closure
 use Rattle.graph.specs.Solution.{Solution}
 use Rattle.graph.specs.Verdict as graph
 use Rattle.solve_classes.specs.Table.{class}
 use Rattle.solve_classes.specs.Exact.{Sound, Exact}
 use Rattle.solve_trace.specs.Trace.{Traced}
+use Rattle.solve_heights.specs.Peel.{Peeled}
+use Rattle.store.specs.declared.Terms.{Terms}
 use Rattle.solve_trace.specs.Steps.{TraceFits}
 use Rattle.solve.specs.declared.Finding.{Finding}
 use Rattle.solve.specs.declared.Finding.the-variants.{Solved, Clash, Cycle}
@@ -23,7 +26,7 @@ use Rattle.solve.specs.declared.Finding.the-variants.{Solved, Clash, Cyc
 abbrev pub number : Finding → ℕ
 number Solved = 0
 number (Clash u v) = 8
-number (Cycle u) = 9
+number Cycle = 9
 
 pub record Solving (s : State) (t h : List ℕ) : Type 0 where
   pub exact : Exact s t
@@ -41,15 +44,19 @@ pub record Clashes (s : State) (t : List ℕ) (u v : ℕ) : Type 0 where
   pub differ : EqualLabels f cs g ds → ⊥
   pub joined : class t u ≡ class t v
 
-pub record Circles (s : State) (t : List ℕ) (u : ℕ) : Type 0 where
+pub record Circles (s : State) (t : List ℕ) : Type 0 where
   pub exact : Exact s t
-  pub known : IsNode s u
-  pub back : Below s u u
+  pub cycle : closure.Cycle s
 
 abbrev pub Because : State → List ℕ → List ℕ → Finding → Type 0
 Because s t h Solved = Solving s t h
 Because s t h (Clash u v) = Clashes s t u v
-Because s t h (Cycle u) = Circles s t u
+Because s t h Cycle = Circles s t
+
+abbrev pub LeftOver : Terms → List ℕ → List ℕ → ℕ → Finding → Type 0
+LeftOver g t h n Solved = Peeled g t h n
+LeftOver g t h n (Clash u v) = Unit {0}
+LeftOver g t h n Cycle = Peeled g t h n
 
 pub record Decided (s : State) (t h tr : List ℕ) (n : ℕ) (v : Finding) : Type 0 where
   pub proper : Proper s

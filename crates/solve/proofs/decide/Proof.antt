@@ -1,13 +1,16 @@
 -- `solve::decide` meets its contract.
-use Rattle.solve_closure.proofs.SettledLaws.{given-shape, holds-state}
+use Rattle.solve.proofs.DecidedLaws.{judging}
+use borrow.Author.Needs.{needs}
 use Rattle.solve.proofs.decide.Statement.{statement}
 use Rattle.solve.proofs.decide.Tie as tie
 
-solve-requires : tie.Need-solve-requires
-solve-requires c κs = (given-shape _ _ (c .before .pre .0), c .before .pre .1)
+judge-requires : tie.Need-judge-requires
+judge-requires c κs = judging (c .before .before .pre .0 .formed) (c .settle .ensures .0)
 
 returns : tie.Need-returns
-returns c = c .solve .ensures _ (holds-state _ _)
+returns c =
+    let o = c .before in
+    λ s H. c .judge .ensures .1 s _ (H .nodes) (o .settle .ensures .1 s H)
 
 pub decide-spec : {M : Type 1} → statement M
-decide-spec = tie.close (tie.spec solve-requires returns)
+decide-spec = tie.close (tie.spec (λ c κs. search needs) judge-requires returns)
