@@ -227,14 +227,14 @@ fn rounds(
 
 // The classes strictly below node `u`, each with a step down into it and a level; the way up from it goes by lower levels to u's class,
 // which counts as reached only where a way down leads back to it.
-pub fn reach(
+pub fn reach<'a>(
     table: [u8; 64],
     u: u8,
     n: usize,
-    kind: &[u8; 64],
-    symbol: &[u16; 64],
-    arity: &[u8; 64],
-    child: &[u8; 256],
+    kind: &'a [u8; 64],
+    symbol: &'a [u16; 64],
+    arity: &'a [u8; 64],
+    child: &'a [u8; 256],
 ) -> Search
     ghost { Terms }
     requires { λ g. ⌜ terms n (now kind) (now symbol) (now arity) (now child) ≡ g ⌝ }
@@ -280,15 +280,15 @@ fn nothing_reached() -> Search
 }
 
 // The search from node `u`, where it may lead back: a variable isn't searched from, nor a class that the peel took.
-fn search_from(
+fn search_from<'a>(
     table: [u8; 64],
     height: &[u8; 64],
     u: usize,
     n: usize,
-    kind: &[u8; 64],
-    symbol: &[u16; 64],
-    arity: &[u8; 64],
-    child: &[u8; 256],
+    kind: &'a [u8; 64],
+    symbol: &'a [u16; 64],
+    arity: &'a [u8; 64],
+    child: &'a [u8; 256],
 ) -> Search
     ghost { Terms }
     requires { λ g. ⌜ terms n (now kind) (now symbol) (now arity) (now child) ≡ g ⌝ }
@@ -308,14 +308,14 @@ fn search_from(
 }
 
 // A node below itself, where the peel left something.
-pub fn find_cycle(
+pub fn find_cycle<'a>(
     table: [u8; 64],
     heights: Heights,
     n: usize,
-    kind: &[u8; 64],
-    symbol: &[u16; 64],
-    arity: &[u8; 64],
-    child: &[u8; 256],
+    kind: &'a [u8; 64],
+    symbol: &'a [u16; 64],
+    arity: &'a [u8; 64],
+    child: &'a [u8; 256],
 ) -> Circle
     ghost { Terms }
     requires { λ g. ⌜ terms n (now kind) (now symbol) (now arity) (now child) ≡ g ⌝ }

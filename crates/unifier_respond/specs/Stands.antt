@@ -1,9 +1,7 @@
 -- How two nodes stand in the closure of solved equations, with the proof in a lent buffer.
---   Lies     the answer to "v lies below u", of every state with these nodes whose closure the table is
---   Known    two known nodes of solved equations
+--   Known            two known nodes of solved equations
 --   StandingProved   the four cases
 use mathlib.Core.Path.{_≡_}
-use mathlib.Core.Bool.{Bool, true, false}
 use mathlib.Core.List.{List}
 use Prim.Native.Nat.{ℕ, _<_}
 use Rattle.graph.specs.State.{State}
@@ -14,15 +12,9 @@ use Rattle.store.specs.Views.{stateFrom}
 use Rattle.store.specs.Shape.{Shape}
 use Rattle.store.specs.declared.Terms.{Terms}
 use Rattle.store.specs.declared.Equations.{Equations}
-use Rattle.solve_classes.specs.Exact.{Exact}
-use Rattle.solve_trace.specs.Nodes.{Nodes}
 use Rattle.solve.specs.Decided.{Resumable}
 use Rattle.unifier_respond.specs.declared.Standing.{Standing}
 use Rattle.unifier_respond.specs.declared.Standing.the-variants as stands
-
-pub record Lies (g : Terms) (table : List ℕ) (u v : ℕ) (r : Bool) : Type 0 where
-  pub yes : r ≡ true → (s : State) → Nodes g s → Exact s table → Below s u v
-  pub never : r ≡ false → (s : State) → Nodes g s → Exact s table → Below s u v → ⊥
 
 pub record Known (t : Terms) (e : Equations) (u v : ℕ) (table trace : List ℕ) (steps : ℕ) : Type 0 where
   pub shape : Shape t e

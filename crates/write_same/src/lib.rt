@@ -108,7 +108,7 @@ pub fn explain_same<'a>(
     nodes: usize,
     trace: &[u16; 64],
     steps: usize,
-    name: &[u16; 256],
+    name: &'a [u16; 256],
     left: &'a [u8; 256],
     right: &'a [u8; 256],
     child: &'a [u8; 256],

@@ -1,12 +1,14 @@
--- What the writer's calls ask and promise.
---   Shows    a proof of every goal that the claim shows
+-- What proofs from a trace ask and promise.
+--   Shows           a proof of every goal that the claim shows
 --   TracedClosure   the table is the closure's, made by the entries
---   Differ   functor nodes of different labels
+--   ProofRoom       a buffer that every proof fits, and a trace
 use mathlib.Core.Path.{_≡_}
 use mathlib.Core.Bool.{true}
 use mathlib.Core.List.{List}
-use Prim.Native.Nat.{ℕ}
-use Rattle.graph.specs.State.{functor, State, NodeAt, EqualLabels}
+use Prim.Native.Nat.{ℕ, _≤_}
+use lib.ListN.{length}
+use Rattle.graph.specs.Limits.{bufferBytes}
+use Rattle.graph.specs.State.{State}
 use Rattle.graph.specs.Lines.{Claim}
 use Rattle.graph.specs.Goals.{Goal, shows}
 use Rattle.solve_classes.specs.Exact.{Exact}
@@ -20,12 +22,7 @@ pub record TracedClosure (s : State) (es t : List ℕ) : Type 0 where
   pub traced : Traced s es t
   pub exact : Exact s t
 
--- functor nodes of different labels
-pub record Differ (s : State) (u v : ℕ) : Type 0 where
-  pub f : ℕ
-  pub g : ℕ
-  pub cs : List ℕ
-  pub ds : List ℕ
-  pub at-u : NodeAt s u (functor f cs)
-  pub at-v : NodeAt s v (functor g ds)
-  pub differ : EqualLabels f cs g ds → ⊥
+pub record ProofRoom (buf trace : List ℕ) (steps : ℕ) : Type 0 where
+  pub buffer : bufferBytes ≤ length buf
+  pub trace-size : length trace ≡ 64
+  pub few : steps ≤ 64

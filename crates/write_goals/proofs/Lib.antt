@@ -1,3 +1,0 @@
--- Laws of the writer's calls.
---   WriterLaws   from what the writer promises of lines to proofs of goals
-pub mod WriterLaws

@@ -1,2 +1,0 @@
--- Proofs for the calls.
-pub mod Writer
