@@ -23,6 +23,9 @@ use Rattle.unifier_respond.specs.Stands.{Known, StandingProved}
 use Rattle.unifier_respond.specs.declared.Standing.the-variants as stands
 use Rattle.unifier_respond.proofs.ShowLaws.{down}
 
+pub positive : {k : ℕ} → (k ≡ 0 → ⊥) → 1 ≤ k
+positive n = omega arith
+
 module _ (t : Terms) (e : Equations) (u v : ℕ) (table trace : List ℕ) (steps : ℕ) (k : Known t e u v table trace steps) where
   pub all-formed : Formed t
   all-formed = formed t (k .shape .terms)
