@@ -49,5 +49,5 @@ module _ (t : Terms) (e : Equations) (table trace : List ℕ) (steps : ℕ) wher
     pub clashing : (x y : ℕ) → v ≡ Clash x y → Examines t e trace (examined false table steps)
     clashing x y q = unsolved (λ z. let w : _≡_ {A = ℕ} 8 0 = sym (ap number q) ∙ z in omega arith)
 
-    pub circling : (x : ℕ) → v ≡ Cycle x → Examines t e trace (examined false table steps)
-    circling x q = unsolved (λ z. let w : _≡_ {A = ℕ} 9 0 = sym (ap number q) ∙ z in omega arith)
+    pub circling : v ≡ Cycle → Examines t e trace (examined false table steps)
+    circling q = unsolved (λ z. let w : _≡_ {A = ℕ} 9 0 = sym (ap number q) ∙ z in omega arith)

@@ -8,8 +8,6 @@ ghost use Rattle.unifier_examine.specs.Examines.{Examines};
 ghost use Rattle.store.specs.declared.Terms.{Terms};
 ghost use Rattle.store.specs.declared.Equations.{Equations};
 use solve::Finding;
-use store::Equations;
-use store::Terms;
 
 // Where the value is a workspace, the class table of its held equations, and how many entries its trace has.
 pub struct Examined {
@@ -18,6 +16,7 @@ pub struct Examined {
     pub steps: usize,
 }
 
+// What the solver finds of well-shaped arrays. The names say which equations they are.
 fn solve<'a>(
     trace: &mut [u16; 64],
     n: usize,
@@ -34,10 +33,9 @@ fn solve<'a>(
     requires { λ w. ⌜ (terms n (now kind) (now symbol) (now arity) (now child), equations m (now name) (now left) (now right)) ≡ w ⌝ }
     requires { λ w. ⌜ Shape (w .0) (w .1) ⌝ }
     requires { λ w. ⌜ length (now trace) ≡ 64 ⌝ }
-    ensures { λ w r. ⌜ Examines (w .0)
-        (w .1) (now (trace .exit)) r ⌝ }
+    ensures { λ w r. ⌜ Examines (w .0) (w .1) (now (trace .exit)) r ⌝ }
 {
-    let o = solve::decide(trace, n, kind, symbol, arity, child, m, name, left, right);
+    let o = solve::decide(trace, n, kind, symbol, arity, child, m, left, right);
     let table = o.table;
     let steps = o.steps;
     let verdict = o.verdict;
@@ -52,7 +50,7 @@ fn solve<'a>(
             table,
             steps,
         },
-        Finding::Cycle(_) => Examined {
+        Finding::Cycle => Examined {
             valid: false,
             table,
             steps,
@@ -60,6 +58,7 @@ fn solve<'a>(
     }
 }
 
+// Whether the arrays make a workspace.
 pub fn examine<'a>(
     trace: &mut [u16; 64],
     n: usize,
@@ -84,25 +83,4 @@ pub fn examine<'a>(
         table: [0; 64],
         steps: 0,
     }
-}
-
-// The same of whole terms and equations.
-pub fn examine_parts(t: Terms, e: Equations, trace: &mut [u16; 64]) -> Examined
-    requires { ⌜ length (now trace) ≡ 64 ⌝ }
-    ensures { λ r. ⌜ Examines t e (now (trace .exit)) r ⌝ }
-{
-    let n = t.count;
-    let m = e.count;
-    examine(
-        trace,
-        n,
-        &t.kind,
-        &t.symbol,
-        &t.arity,
-        &t.child,
-        m,
-        &e.name,
-        &e.left,
-        &e.right,
-    )
 }
