@@ -2,7 +2,7 @@
 ghost use mathlib.Core.Path.{_≡_};
 ghost use Prim.Native.Nat.{_+_, _≤_, _<_};
 ghost use mathlib.Core.Bool.{true};
-ghost use lib.ListN.{length};
+ghost use lib.ListN.{length, set};
 ghost use lib.Seq.{paste};
 ghost use Rattle.graph.specs.State.{Node};
 ghost use Rattle.graph.specs.Book.{allBelow};
@@ -11,6 +11,7 @@ ghost use Rattle.store.specs.Operations.{First, Room, PutsNode, PutsEqua
 
 // The declared nodes: the first `count` places of each array are used. Kind 0 is a variable, 1 a functor node. The children of
 // node u stand at places 4 u to 4 u + 3.
+#[repr(C)]
 pub struct Terms {
     pub count: usize,
     pub kind: [u8; 64],
@@ -20,6 +21,7 @@ pub struct Terms {
 }
 
 // The held equations, in the order taken.
+#[repr(C)]
 pub struct Equations {
     pub count: usize,
     pub name: [u16; 256],
@@ -61,6 +63,21 @@ pub fn find(name: &[u16; 256], n: usize, x: u16) -> usize
         i += 1;
     }
     i
+}
+
+// One name anew; below, one end.
+pub fn set_name(names: &mut [u16; 256], i: usize, x: u16)
+    requires { ⌜ (i < 256) × (length (now names) ≡ 256) ⌝ }
+    ensures { λ _. ⌜ now (names .exit) ≡ set (now (names .entry)) i x ⌝ }
+{
+    names[i] = x;
+}
+
+pub fn set_end(ends: &mut [u8; 256], i: usize, x: u8)
+    requires { ⌜ (i < 256) × (length (now ends) ≡ 256) ⌝ }
+    ensures { λ _. ⌜ now (ends .exit) ≡ set (now (ends .entry)) i x ⌝ }
+{
+    ends[i] = x;
 }
 
 // The children, from the place `at` on.

@@ -1,5 +1,5 @@
 -- Equate past its early refusals: what the verdict asks, and the reply to each.
-use mathlib.Core.Path.{_≡_, refl, ap, subst}
+use mathlib.Core.Path.{_≡_, refl, sym, ap, subst}
 use mathlib.Core.Bool.{Bool, true, false, _&&_, cond}
 use mathlib.Core.List.{List}
 use mathlib.Core.Option.{Option, none, some}
@@ -9,18 +9,28 @@ use lib.ListN.{length}
 use lib.Dec.{ltb, leb}
 use borrow.Author.Tests.{ltb-true, ltb-false, leb-false}
 use Rattle.graph.specs.State.{State, stateWith, Equation, nameHeld, offered}
+use Rattle.graph.specs.Goals.{Goal, clash-goal, cycle-goal}
+use Rattle.graph.specs.Book as book
 use Rattle.base.proofs.BoolLaws.{and-left, and-right}
-use Rattle.store.specs.Views.{nodesOf, equationsOf}
-use Rattle.store.specs.Operations.{PutsEquation}
+use Rattle.proof_lines.specs.Proof.{ProofIn}
+use Rattle.store.specs.Views.{nodesOf, stateFrom}
+use Rattle.store.specs.Shape.{EquationsShape, Shape}
+use Rattle.store.specs.Operations.{PutsEquation, withEquation}
 use Rattle.store.specs.declared.Equations.{Equations}
 use Rattle.store.proofs.ViewLaws.{nodes-length, equations-length, shape-proper}
-use Rattle.unifier_respond.specs.Responds.{OfferPosed, Responds}
-use Rattle.unifier_respond.specs.declared.Response.{Response}
-use Rattle.unifier_respond.specs.declared.Response.the-variants as response
+use Rattle.store.proofs.PutLaws.{Full, puts-equation}
+use Rattle.solve_trace.proofs.NodeLaws.{formed}
+use Rattle.solve_closure.specs.Settled.{OfferFits, Before}
+use Rattle.solve.specs.Decided.{number, Decided, Resumable}
+use Rattle.solve.specs.declared.Finding.{Finding}
+use Rattle.solve.specs.declared.Finding.the-variants as finding
+use Rattle.solve.proofs.VerdictLaws.{solved-just, offering}
+use Rattle.solve.proofs.VerdictLaws as verdict
+use Rattle.unifier_respond.specs.Shows.{ProofRoom}
 use Rattle.unifier.specs.Views.{workspaceOf, stateOf, Valid}
 use Rattle.unifier.specs.Replies.{outcome}
 use Rattle.unifier.specs.Equate.{Equates}
-use Rattle.unifier.specs.Inner.{Offering}
+use Rattle.unifier.specs.Inner.{Offering, Refuted}
 use Rattle.unifier.specs.declared.Workspace.{Workspace}
 use Rattle.unifier.specs.declared.Reply.the-variants as says
 use Rattle.unifier.proofs.Laws.{equate-held, equate-clash, equate-cycle}
@@ -34,67 +44,100 @@ tests false true true t h = absurd (let q : _≡_ {A = ℕ} 0 1 = cc in omega ar
 tests false true false true h = absurd (let q : _≡_ {A = ℕ} 0 1 = cc in omega arith)
 tests false true false false h = (refl, (refl, (refl, refl)))
 
-module _ (w : Workspace) (e : Equation) (before table trace : List ℕ) (steps : ℕ) (o : Offering w e (length before) table trace steps) where
-  told : (ltb (length before) 65536 ≡ false) × ((ltb (e .left) (length (stateOf w .nodes)) && ltb (e .right) (length (stateOf w .nodes)) ≡ true)
+module _ (w : Workspace) (e : Equation) (before : List ℕ) (past : book.early (stateOf w) (book.equate e (length before)) ≡ none) where
+  none-refuses : (ltb (length before) 65536 ≡ false) × ((ltb (e .left) (length (stateOf w .nodes)) && ltb (e .right) (length (stateOf w .nodes)) ≡ true)
       × ((nameHeld (e .name) (stateOf w .equations) ≡ false) × (leb 256 (length (stateOf w .equations)) ≡ false)))
-  told =
+  none-refuses =
       tests (ltb (length before) 65536) (ltb (e .left) (length (stateOf w .nodes)) && ltb (e .right) (length (stateOf w .nodes)))
-      (nameHeld (e .name) (stateOf w .equations)) (leb 256 (length (stateOf w .equations))) (o .past)
+      (nameHeld (e .name) (stateOf w .equations)) (leb 256 (length (stateOf w .equations))) past
 
-  pub offering-room : 65536 ≤ length before
-  offering-room = ltb-false (length before) 65536 (told .0)
-
-  pub offering-left : e .left < w .terms .count
-  offering-left =
-      let l : e .left < length (nodesOf (w .terms)) = ltb-true (e .left) (length (nodesOf (w .terms))) (and-left (ltb (e .left) (length (nodesOf (w .terms)))) (ltb (e .right) (length (nodesOf (w .terms)))) (told .1 .0)) in
+  pub known-left : e .left < w .terms .count
+  known-left =
+      let l : e .left < length (nodesOf (w .terms)) = ltb-true (e .left) (length (nodesOf (w .terms))) (and-left (ltb (e .left) (length (nodesOf (w .terms)))) (ltb (e .right) (length (nodesOf (w .terms)))) (none-refuses .1 .0)) in
       rw (nodes-length (w .terms)) at l
 
-  pub offering-right : e .right < w .terms .count
-  offering-right =
-      let l : e .right < length (nodesOf (w .terms)) = ltb-true (e .right) (length (nodesOf (w .terms))) (and-right (ltb (e .left) (length (nodesOf (w .terms)))) (ltb (e .right) (length (nodesOf (w .terms)))) (told .1 .0)) in
+  pub known-right : e .right < w .terms .count
+  known-right =
+      let l : e .right < length (nodesOf (w .terms)) = ltb-true (e .right) (length (nodesOf (w .terms))) (and-right (ltb (e .left) (length (nodesOf (w .terms)))) (ltb (e .right) (length (nodesOf (w .terms)))) (none-refuses .1 .0)) in
       rw (nodes-length (w .terms)) at l
 
-  pub offering-few : w .equations .count < 256
-  offering-few = omega (arith, leb-false 256 (length (stateOf w .equations)) (told .1 .1 .1), equations-length (w .equations))
+  pub equations-few : w .equations .count < 256
+  equations-few = omega (arith, leb-false 256 (length (stateOf w .equations)) (none-refuses .1 .1 .1), equations-length (w .equations))
 
-  pub offering-small : w .terms .count ≤ 64
-  offering-small = o .solved .shape .terms .few
+  pub name-new : nameHeld (e .name) (stateOf w .equations) ≡ false
+  name-new = none-refuses .1 .1 .0
+
+  pub buffer-long : 65536 ≤ length before
+  buffer-long = ltb-false (length before) 65536 (none-refuses .0)
+
+-- the arrays of well-shaped equations are full
+full : {n : ℕ} {q : Equations} → EquationsShape n q → Full q
+full s = record { names = s .name-size; lefts = s .left-size; rights = s .right-size }
+
+module _ (w : Workspace) (e : Equation) (before table trace : List ℕ) (steps : ℕ) (o : Offering w e (length before) table trace steps) where
+  offering-left : e .left < w .terms .count
+  offering-left = known-left w e before (o .past)
+
+  offering-right : e .right < w .terms .count
+  offering-right = known-right w e before (o .past)
 
   valid : Valid w
   valid = record { shape = o .solved .shape; solution = o .solved .solution }
 
-  -- d is the held equations with e at their end
-  module _ (d : Equations) (p : PutsEquation (w .equations) (e .name) (e .left) (e .right) d) where
-    pub asked : OfferPosed (w .terms) (w .equations) d (e .left) (e .right) table trace steps
-    asked = record {
-      shape = o .solved .shape;
-      going = record {
-        proper = shape-proper (w .terms) (w .equations) (o .solved .shape);
-        ready = o .solved .ready;
-        traced = o .solved .traced;
-        exact = o .solved .exact;
-      };
-      left-known = offering-left;
-      right-known = offering-right;
-      more-shape = p .shape (w .terms .count) (o .solved .shape .equations) offering-left offering-right (told .1 .1 .0);
-      name = e .name;
-      more = p .held;
-    }
+  going : Resumable (stateOf w) table trace steps
+  going = record {
+    proper = shape-proper (w .terms) (w .equations) (o .solved .shape);
+    ready = o .solved .ready;
+    traced = o .solved .traced;
+    exact = o .solved .exact;
+  }
 
-    same-state : stateWith (nodesOf (w .terms)) (equationsOf d) ≡ offered (stateOf w) e
+  -- what the solver goes on from
+  pub extend-fits : OfferFits (w .terms) (w .equations .count) (e .left) (e .right) table trace steps
+  extend-fits = offering going (formed (w .terms) (o .solved .shape .terms)) (o .solved .shape .equations .few) (offering-left, offering-right)
+
+  module _ {after heights out : List ℕ} {n : ℕ} {v : Finding}
+      (D : (s : State) (d : Equation) → Before (w .terms) s d (w .equations .count) (e .left) (e .right) table trace steps → Decided (offered s d) after heights out n v) where
+    decided : Decided (offered (stateOf w) e) after heights out n v
+    decided = D (stateOf w) e (verdict.before going e refl (equations-length (w .equations)))
+
+    pub refuted : (f : Finding) → v ≡ f → Refuted w e (length before) after heights out n f
+    refuted f q = record { valid = valid; past = o .past; decided = subst (Decided (offered (stateOf w) e) after heights out n) q decided }
+
+    pub offer-held : v ≡ finding.Solved → Equates w e before before (outcome says.Held (workspaceOf (w .terms) (withEquation (w .equations) (e .name) (e .left) (e .right))))
+    offer-held q =
+        let p = puts-equation (w .equations) (e .name) (e .left) (e .right) (full (o .solved .shape .equations)) (equations-few w e before (o .past)) (w .equations .count) (w .equations .count) (w .equations .count) refl refl refl in
+        equate-held w e before valid (o .past) (withEquation (w .equations) (e .name) (e .left) (e .right)) (p .held)
+        (p .shape (w .terms .count) (o .solved .shape .equations) offering-left offering-right (name-new w e before (o .past)))
+        (rw q at (decided .verdict)) (solved-just decided .0 (rw q refl))
+
+-- ---- refusals 8 and 9: d is the held equations with e at their end
+
+module _ (w : Workspace) (e : Equation) (before : List ℕ) {table heights trace : List ℕ} {steps : ℕ} {v : Finding}
+    (f : Refuted w e (length before) table heights trace steps v) where
+  pub refuted-room : ProofRoom before trace steps
+  refuted-room = record { buffer = buffer-long w e before (f .past); trace-size = f .decided .ready .size; few = omega (arith, f .decided .few) }
+
+  module _ (d : Equations) (p : PutsEquation (w .equations) (e .name) (e .left) (e .right) d) where
+    pub refuted-shape : Shape (w .terms) d
+    refuted-shape =
+        record {
+          terms = f .valid .shape .terms;
+          equations = p .shape (w .terms .count) (f .valid .shape .equations) (known-left w e before (f .past)) (known-right w e before (f .past)) (name-new w e before (f .past));
+        }
+
+    same-state : stateFrom (w .terms) d ≡ offered (stateOf w) e
     same-state = ap (stateWith (nodesOf (w .terms))) (p .held)
 
-    module _ (after : List ℕ) (r : Response) (a : Responds (stateWith (nodesOf (w .terms)) (equationsOf d)) before after r) where
-      on : (q : Response) → r ≡ q → Responds (offered (stateOf w) e) before after q
-      on q h = subst (λ (s : State). Responds s before after q) same-state (subst (Responds (stateWith (nodesOf (w .terms)) (equationsOf d)) before after) h a)
+    pub refuted-decided : Decided (stateFrom (w .terms) d) table heights trace steps v
+    refuted-decided = subst (λ (s : State). Decided s table heights trace steps v) (sym same-state) (f .decided)
 
-      pub offer-held : r ≡ response.Held → Equates w e before after (outcome says.Held (workspaceOf (w .terms) d))
-      offer-held h =
-          let b = on response.Held h in
-          rw (b .1 .1) (equate-held w e before valid (o .past) d (p .held) (asked .more-shape) (b .0) (b .1 .0))
+    module _ (n : ℕ) (after : List ℕ) where
+      moved : (g : Goal) → ProofIn (stateFrom (w .terms) d) g n before after → ProofIn (offered (stateOf w) e) g n before after
+      moved g = subst (λ (s : State). ProofIn s g n before after) same-state
 
-      pub offer-clash : (k : ℕ) → r ≡ response.Clash k → Equates w e before after (outcome (says.Clash k) w)
-      offer-clash k h = let b = on (response.Clash k) h in equate-clash w e before valid (o .past) k after (b .0) (b .1)
+      pub refused-clash : number v ≡ 8 → ProofIn (stateFrom (w .terms) d) clash-goal n before after → Equates w e before after (outcome (says.Clash n) w)
+      refused-clash q l = equate-clash w e before (f .valid) (f .past) n after (rw q at (f .decided .verdict)) (moved clash-goal l)
 
-      pub offer-cycle : (k : ℕ) → r ≡ response.Cycle k → Equates w e before after (outcome (says.Cycle k) w)
-      offer-cycle k h = let b = on (response.Cycle k) h in equate-cycle w e before valid (o .past) k after (b .0) (b .1)
+      pub refused-cycle : number v ≡ 9 → ProofIn (stateFrom (w .terms) d) cycle-goal n before after → Equates w e before after (outcome (says.Cycle n) w)
+      refused-cycle q l = equate-cycle w e before (f .valid) (f .past) n after (rw q at (f .decided .verdict)) (moved cycle-goal l)

@@ -2,6 +2,7 @@
 --   Classed    a workspace and the class table of its closure
 --   Early      the number of the first refusal that the two lists decide, 0 where they decide none
 --   Offering   a solved workspace, and an equation that none of 5, 4, 6 and 7 refuses
+--   Refuted, ClashFound, CycleFound   what the solver found of held and offered equations together
 --   Comparing  a solved workspace, two known nodes and a buffer that is long enough
 --   Reported   the line of refusal 12 fits 16 bits
 --   Checking   an offer and a goal with known nodes and a new name
@@ -10,12 +11,17 @@ use mathlib.Core.List.{List}
 use mathlib.Core.Option.{Option, none, some}
 use Prim.Native.Nat.{ℕ, _≤_, _<_}
 use mathlib.Core.Bool.{true}
-use Rattle.graph.specs.State.{Equation}
+use Rattle.graph.specs.Limits.{bufferBytes}
+use Rattle.graph.specs.State.{Equation, offered}
 use Rattle.graph.specs.Goals.{Goal, Judgement, passed, refused, broken-line}
 use Rattle.solve_classes.specs.Table.{Table}
 use Rattle.solve_classes.specs.Exact.{Exact}
 use Rattle.solve_classes.specs.Members.{Alone}
 use Rattle.graph.specs.Book as book
+use Rattle.solve_heights.specs.Peel.{Peeled}
+use Rattle.solve.specs.Decided.{Decided}
+use Rattle.solve.specs.declared.Finding.{Finding}
+use Rattle.solve.specs.declared.Finding.the-variants as finding
 use Rattle.unifier_examine.specs.Examines.{Solved}
 use Rattle.unifier.specs.Views.{stateOf, Valid}
 use Rattle.unifier.specs.Check.{offerBelow, goalBelow, offerNew}
@@ -48,8 +54,23 @@ pub record Offering (w : Workspace) (e : Equation) (room : ℕ) (table trace : L
   pub solved : Solved (w .terms) (w .equations) table trace steps
   pub past : book.early (stateOf w) (book.equate e room) ≡ none
 
+-- a workspace, an equation that none of 5, 4, 6 and 7 refuses, and the verdict on both together
+pub record Refuted (w : Workspace) (e : Equation) (room : ℕ) (table heights trace : List ℕ) (steps : ℕ) (v : Finding) : Type 0 where
+  pub valid : Valid w
+  pub past : book.early (stateOf w) (book.equate e room) ≡ none
+  pub decided : Decided (offered (stateOf w) e) table heights trace steps v
+
+pub record ClashFound (w : Workspace) (e : Equation) (room : ℕ) (trace : List ℕ) (steps u v : ℕ) : Type 0 where
+  pub table : List ℕ
+  pub heights : List ℕ
+  pub refuted : Refuted w e room table heights trace steps (finding.Clash u v)
+
+pub record CycleFound (w : Workspace) (e : Equation) (room : ℕ) (table heights : List ℕ) (left : ℕ) (trace : List ℕ) (steps : ℕ) : Type 0 where
+  pub refuted : Refuted w e room table heights trace steps finding.Cycle
+  pub peeled : Peeled (w .terms) table heights left
+
 pub record Comparing (w : Workspace) (u v size : ℕ) (table trace : List ℕ) (steps : ℕ) : Type 0 where
   pub solved : Solved (w .terms) (w .equations) table trace steps
   pub left-known : u < w .terms .count
   pub right-known : v < w .terms .count
-  pub room : 65536 ≤ size
+  pub room : bufferBytes ≤ size

@@ -9,6 +9,7 @@ ghost use Rattle.unifier.specs.Inner.{Comparing};
 use super::Compared;
 use super::Comparison;
 use super::Workspace;
+use graph::BUFFER;
 use unifier_respond::Standing;
 
 impl Workspace {
@@ -36,7 +37,7 @@ impl Workspace {
     {
         let t = self.terms;
         let e = self.equations;
-        let s = unifier_respond::stand_parts(proof, table, trace, steps, t, e, u as u8, v as u8);
+        let s = unifier_respond::stand(proof, t, e, table, trace, steps, u as u8, v as u8);
         match s {
             Standing::Same(lines) => Compared {
                 reply: Comparison::Same(lines),
@@ -69,11 +70,10 @@ impl Workspace {
         requires { ⌜ Solved (self .terms) (self .equations) table (now trace) steps ⌝ }
         ensures { λ r. ⌜ Compares self u v (now (proof .entry)) (now (proof .exit)) r ⌝ }
     {
-        if proof.len() < 65536 {
+        if proof.len() < BUFFER {
             return self.refuse_comparison(5);
         }
-        let t = self.terms;
-        let n = t.count;
+        let n = self.terms.count;
         if n <= u as usize {
             return self.refuse_comparison(4);
         }
@@ -83,6 +83,7 @@ impl Workspace {
         self.stand(table, trace, steps, u, v, proof)
     }
 
+    // How two nodes stand, or refusal 1, 5 or 4; but for `apart` with a proof in the lent buffer.
     pub fn compare(self, u: u16, v: u16, proof: &mut [u8]) -> Compared
         ensures { λ r. ⌜ Compares self u v (now (proof .entry)) (now (proof .exit)) r ⌝ }
     {

@@ -14,10 +14,14 @@ mod check; // the calls of these names
 mod compare;
 mod equate;
 
+use graph::CHILDREN;
+use graph::NODES;
 use store::Equations;
 use store::Terms;
 use unifier_examine::Examined;
 
+// The layout is C's, so that a host hands over the value as it is.
+#[repr(C)]
 pub struct Workspace {
     pub terms: Terms,
     pub equations: Equations,
@@ -90,6 +94,7 @@ pub struct Checked {
 }
 
 impl Workspace {
+    // No nodes, no equations.
     pub fn fresh() -> Workspace
         ensures { λ r. ⌜ r ≡ freshWorkspace ⌝ }
     {
@@ -113,9 +118,18 @@ impl Workspace {
         requires { ⌜ length (now trace) ≡ 64 ⌝ }
         ensures { λ r. ⌜ Examines (self .terms) (self .equations) (now (trace .exit)) r ⌝ }
     {
-        let t = self.terms;
-        let e = self.equations;
-        unifier_examine::examine_parts(t, e, trace)
+        unifier_examine::examine(
+            trace,
+            self.terms.count,
+            &self.terms.kind,
+            &self.terms.symbol,
+            &self.terms.arity,
+            &self.terms.child,
+            self.equations.count,
+            &self.equations.name,
+            &self.equations.left,
+            &self.equations.right,
+        )
     }
 
     fn refuse(self, number: u8) -> Outcome
@@ -127,15 +141,16 @@ impl Workspace {
         }
     }
 
+    // Past refusal 1. So are the inner functions of the other calls.
     fn put_variable(mut self) -> Outcome
         requires { ⌜ Valid self ⌝ }
         ensures { λ r. ⌜ Answers self (book.declare variable) r ⌝ }
     {
-        let t = self.terms;
-        let n = t.count;
-        if 64 <= n {
+        let n = self.terms.count;
+        if NODES <= n {
             return self.refuse(2);
         }
+        let t = self.terms;
         let more = t.put_variable();
         self.terms = more;
         Outcome {
@@ -144,6 +159,7 @@ impl Workspace {
         }
     }
 
+    // Puts a variable at the end: its number, or refusal 1 or 2.
     pub fn declare_variable(self) -> Outcome
         ensures { λ r. ⌜ Answers self (book.declare variable) r ⌝ }
     {
@@ -159,15 +175,15 @@ impl Workspace {
         requires { ⌜ Valid self ⌝ }
         ensures { λ r. ⌜ Answers self (book.declare (functor symbol (now (children .entry)))) r ⌝ }
     {
-        let t = self.terms;
-        let count = t.count;
-        if 64 <= count {
+        let count = self.terms.count;
+        if NODES <= count {
             return self.refuse(2);
         }
-        if 4 < children.len() {
+        if CHILDREN < children.len() {
             return self.refuse(3);
         }
         if store::all_below(children, count as u16) {
+            let t = self.terms;
             let more = t.put_functor(symbol, children);
             self.terms = more;
             return Outcome {
@@ -178,6 +194,7 @@ impl Workspace {
         self.refuse(4)
     }
 
+    // Puts a functor node at the end: its number, or refusal 1, 2, 3 or 4.
     pub fn declare_functor(self, symbol: u16, children: &[u16]) -> Outcome
         ensures { λ r. ⌜ Answers self (book.declare (functor symbol (now (children .entry)))) r ⌝ }
     {
@@ -206,6 +223,7 @@ impl Workspace {
         self.refuse(10)
     }
 
+    // Strikes the equation of that name: gone, or refusal 1 or 10.
     pub fn withdraw(self, name: u16) -> Outcome
         ensures { λ r. ⌜ Answers self (book.withdraw name) r ⌝ }
     {
@@ -230,10 +248,8 @@ impl Workspace {
         requires { ⌜ Classed self table ⌝ }
         ensures { λ r. ⌜ Classifies self u r ⌝ }
     {
-        let t = self.terms;
-        let n = t.count;
         let x = u as usize;
-        if n <= x {
+        if self.terms.count <= x {
             return self.refuse_class(4);
         }
         let c = table[x];
@@ -245,6 +261,7 @@ impl Workspace {
         }
     }
 
+    // The lowest node of the node's class and how many it has, or refusal 1 or 4.
     pub fn class_of(self, u: u16) -> Classified
         ensures { λ r. ⌜ Classifies self u r ⌝ }
     {

@@ -12,14 +12,14 @@ returns c =
     let s = c .before .before .before in
     rw (c .refuse-class .ensures) (class-unknown (s .args .self) (s .args .u) (s .pre .valid) (omega (arith, c .before .if1 .taken)))
 
-cast-t14 : tie.Need-cast-t14
-cast-t14 c =
+cast-t12 : tie.Need-cast-t12
+cast-t12 c =
     let l = c .before in
     let s = l .before .before .before in
     omega (arith, low-small (s .args .self) (s .args .t2) (s .args .u) (s .pre) (l .before .if1 .left) (l .lowest .result) (l .lowest .ensures))
 
-cast-t16 : tie.Need-cast-t16
-cast-t16 c =
+cast-t14 : tie.Need-cast-t14
+cast-t14 c =
     let a = c .before .before .before .before .args in
     omega (arith, size-small (a .t2) (class (a .t2) (a .u)) (c .size .result) (c .size .ensures))
 
@@ -38,6 +38,6 @@ class-in-spec =
     (λ c. search needs)
     (λ c κs. search needs)
     (λ c κs. search needs)
+    cast-t12
     cast-t14
-    cast-t16
     returns-2)

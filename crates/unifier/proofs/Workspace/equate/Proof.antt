@@ -1,7 +1,9 @@
 -- `Workspace::equate` meets its contract.
+use native.Mathlib.Omega.{arith}
 use borrow.Author.Needs.{needs}
 use Rattle.graph.specs.State.{equationOf}
 use Rattle.unifier.proofs.Laws.{solved-valid, not-valid, equate-no-workspace, equate-early}
+use Rattle.unifier.proofs.EquateLaws.{known-left, known-right}
 use Rattle.unifier.proofs.Workspace.equate.Statement.{statement}
 use Rattle.unifier.proofs.Workspace.equate.Tie as tie
 
@@ -16,6 +18,28 @@ returns c =
     let r = y .early .ensures in
     rw (c .refuse .ensures)
     (equate-early (a .self) (equationOf (a .name) (a .left) (a .right)) (a .proof .now) (solved-valid _ _ _ _ (x .examined .ensures .holds (y .before .if1 .taken))) (y .early .result) (r .refused (c .before .if2 .taken)) (c .before .if2 .taken) (r .small))
+
+cast-offer : tie.Need-cast-offer
+cast-offer c =
+    let y = c .before .before .before in
+    let x = y .before .before in
+    let a = x .before .before .before .args in
+    omega (
+      arith,
+      known-left (a .self) (equationOf (a .name) (a .left) (a .right)) (a .proof .now) (y .early .ensures .passed (c .before .before .if2 .left)),
+      x .examined .ensures .holds (y .before .if1 .taken) .shape .terms .few,
+    )
+
+cast-offer-2 : tie.Need-cast-offer-2
+cast-offer-2 c =
+    let y = c .before .before .before in
+    let x = y .before .before in
+    let a = x .before .before .before .args in
+    omega (
+      arith,
+      known-right (a .self) (equationOf (a .name) (a .left) (a .right)) (a .proof .now) (y .early .ensures .passed (c .before .before .if2 .left)),
+      x .examined .ensures .holds (y .before .if1 .taken) .shape .terms .few,
+    )
 
 offer-requires : tie.Need-offer-requires
 offer-requires c κs =
@@ -39,6 +63,8 @@ equate-spec =
     early-requires
     (λ c κs. search needs)
     returns
+    cast-offer
+    cast-offer-2
     offer-requires
     (λ c. search needs)
     returns-2

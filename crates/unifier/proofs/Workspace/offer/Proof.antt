@@ -1,72 +1,72 @@
--- `Workspace::offer` meets its contract: by cases on the response.
-use native.Mathlib.Omega.{arith}
+-- `Workspace::offer` meets its contract: by cases on the verdict.
 use borrow.Author.Needs.{needs}
 use Rattle.graph.specs.State.{equationOf}
-use Rattle.unifier.proofs.EquateLaws.{offering-room, offering-left, offering-right, offering-few, offering-small, asked, offer-held, offer-clash, offer-cycle}
+use Rattle.unifier_respond.proofs.FoundLaws.{left-by-peel}
+use Rattle.unifier.proofs.EquateLaws.{equations-few, extend-fits, refuted, offer-held}
 use Rattle.unifier.proofs.Workspace.offer.Statement.{statement}
 use Rattle.unifier.proofs.Workspace.offer.Tie as tie
 
-cast-x : tie.Need-cast-x
-cast-x c =
-    let s = c .before .before .before in
+extend-requires : tie.Need-extend-requires
+extend-requires c κs =
+    let s = c .before .before .before .before .before .before .before in
     let a = s .args in
-    omega (arith, offering-left (a .self) (equationOf (a .name) (a .left) (a .right)) (a .proof .now) (a .table) (a .trace .now) (a .steps) (s .pre), offering-small (a .self) (equationOf (a .name) (a .left) (a .right)) (a .proof .now) (a .table) (a .trace .now) (a .steps) (s .pre))
+    extend-fits (a .t1) (equationOf (a .name) (a .x) (a .y)) (a .proof .now) (a .table) (a .trace .now) (a .steps) (s .pre)
 
-cast-y : tie.Need-cast-y
-cast-y c =
-    let s = c .before .before .before in
+take-requires : tie.Need-take-requires
+take-requires c κs =
+    let s = c .before .before .before .before .before .before .before .before .before .before in
     let a = s .args in
-    omega (arith, offering-right (a .self) (equationOf (a .name) (a .left) (a .right)) (a .proof .now) (a .table) (a .trace .now) (a .steps) (s .pre), offering-small (a .self) (equationOf (a .name) (a .left) (a .right)) (a .proof .now) (a .table) (a .trace .now) (a .steps) (s .pre))
+    equations-few (a .t1) (equationOf (a .name) (a .x) (a .y)) (a .proof .now) (s .pre .past)
 
-put-requires : tie.Need-put-requires
-put-requires c κs =
-    let s = c .before .before .before in
+clash-requires : tie.Need-clash-requires
+clash-requires c κs =
+    let v = c .before .before .before in
+    let x = v .before .before in
+    let s = x .before .before .before .before .before .before .before .before in
     let a = s .args in
-    offering-few (a .self) (equationOf (a .name) (a .left) (a .right)) (a .proof .now) (a .table) (a .trace .now) (a .steps) (s .pre)
+    record {
+      table = x .extend .result .table;
+      heights = x .extend .result .heights .height;
+      refuted = refuted (a .t1) (equationOf (a .name) (a .x) (a .y)) (a .proof .now) (a .table) (a .trace .now) (a .steps) (s .pre) (x .extend .ensures .1) _ (v .verdict .given .1);
+    }
 
-offer-parts-requires : tie.Need-offer-parts-requires
-offer-parts-requires c κs =
-    let p = c .before .before in
-    let s = p .before .before .before .before in
+cycle-requires : tie.Need-cycle-requires
+cycle-requires c κs =
+    let v = c .before .before .before .before in
+    let x = v .before .before in
+    let s = x .before .before .before .before .before .before .before .before in
     let a = s .args in
-    (asked (a .self) (equationOf (a .name) (a .left) (a .right)) (a .proof .now) (a .table) (a .trace .now) (a .steps) (s .pre) (p .put .result) (p .put .ensures), offering-room (a .self) (equationOf (a .name) (a .left) (a .right)) (a .proof .now) (a .table) (a .trace .now) (a .steps) (s .pre))
+    record {
+      refuted = refuted (a .t1) (equationOf (a .name) (a .x) (a .y)) (a .proof .now) (a .table) (a .trace .now) (a .steps) (s .pre) (x .extend .ensures .1) _ (v .enum-told2 .given .1);
+      peeled = left-by-peel _ (x .extend .ensures .0) (v .enum-told2 .given .1);
+    }
 
 returns : tie.Need-returns
 returns c =
-    let o = c .before .before .before .before in
-    let p = o .before .before .before in
-    let s = p .before .before .before .before in
+    let v = c .before in
+    let x = v .before .before in
+    let s = x .before .before .before .before .before .before .before .before in
     let a = s .args in
-    offer-held (a .self) (equationOf (a .name) (a .left) (a .right)) (a .proof .now) (a .table) (a .trace .now) (a .steps) (s .pre) (p .put .result) (p .put .ensures) _ (o .offer-parts .result) (o .offer-parts .ensures) (c .enum-told .given .1)
+    rw (c .take .ensures)
+    (offer-held (a .t1) (equationOf (a .name) (a .x) (a .y)) (a .proof .now) (a .table) (a .trace .now) (a .steps) (s .pre) (x .extend .ensures .1) (v .enum-told .given .1))
 
 returns-2 : tie.Need-returns-2
-returns-2 c =
-    let o = c .before .before .before .before .before in
-    let p = o .before .before .before in
-    let s = p .before .before .before .before in
-    let a = s .args in
-    offer-clash (a .self) (equationOf (a .name) (a .left) (a .right)) (a .proof .now) (a .table) (a .trace .now) (a .steps) (s .pre) (p .put .result) (p .put .ensures) _ (o .offer-parts .result) (o .offer-parts .ensures) _ (c .before .r .given .1)
+returns-2 c = c .before .before .clash .ensures
 
 returns-3 : tie.Need-returns-3
-returns-3 c =
-    let o = c .before .before .before .before .before in
-    let p = o .before .before .before in
-    let s = p .before .before .before .before in
-    let a = s .args in
-    offer-cycle (a .self) (equationOf (a .name) (a .left) (a .right)) (a .proof .now) (a .table) (a .trace .now) (a .steps) (s .pre) (p .put .result) (p .put .ensures) _ (o .offer-parts .result) (o .offer-parts .ensures) _ (c .before .r2 .given .1)
+returns-3 c = c .before .before .cycle .ensures
 
 pub offer-spec : {M : Type 1} → statement M
 offer-spec =
     tie.close
     (tie.spec
-    cast-x
-    cast-y
-    put-requires
-    offer-parts-requires
+    extend-requires
     (λ c. search needs)
+    take-requires
     (λ c. search needs)
+    clash-requires
     (λ c. search needs)
-    (λ c. search needs)
+    cycle-requires
     returns
     (λ c. search needs)
     returns-2
