@@ -14,10 +14,10 @@ use Rattle.graph.specs.Lines.{Line, tidy, byRule, claimOf}
 use Rattle.graph.specs.Goals.{clash-goal, cycle-goal, same-goal}
 use Rattle.graph.specs.Book.{over, step}
 use Rattle.graph.specs.Examples.{equation-line, child-line, turned-line, joined-line, down-line, ExampleRun, program, e11, program-calls, program-replies, Starred, types, a-b, c-g, SectionTwo, siblings, parents, congruent, Nothing, Untidy, Broken, Refusals, Examples}
-use Rattle.base.proofs.ListLaws.{found-take}
+use Rattle.base.proofs.ListLaws.{found-take, found-snoc}
 use Rattle.graph.proofs.SolutionLaws.{Fewer, solution-fewer, proper-fewer, solution-verdict}
-use Rattle.graph.proofs.CheckerLaws.{judge-sound}
-use Rattle.graph.proofs.StateLaws.{found-snoc, proper-offered}
+use Rattle.graph.proofs.SoundLaws.{judge-sound}
+use Rattle.graph.proofs.ProperLaws.{proper-offered}
 use Rattle.graph.proofs.SolutionTest.{solution-ok, proper-ok, clash-verdict, cycle-verdict, held-verdict, apart}
 
 -- ---- starred

@@ -18,7 +18,7 @@ use Rattle.graph.specs.Goals.{clash-goal, cycle-goal, Passes}
 use Rattle.base.proofs.ListLaws.{lt-found}
 use Rattle.base.proofs.BoolLaws.{and-left, and-right, then-true}
 use Rattle.graph.proofs.SolutionLaws.{same-class, classes-no-clash, solution-verdict}
-use Rattle.graph.proofs.CheckerLaws.{judge-sound}
+use Rattle.graph.proofs.SoundLaws.{judge-sound}
 
 -- ---- the tests
 
