@@ -7,6 +7,7 @@ use mathlib.Core.List.{List, [], _∷_}
 use Prim.Native.Nat.{ℕ, _≤_}
 use native.Mathlib.Omega.{arith}
 use lib.ListN.{length, length-append}
+use Rattle.graph.specs.Limits.{nodeLimit, childLimit, equationLimit}
 use Rattle.graph.specs.State.{Node, State, emptyState, NodeAt}
 use Rattle.graph.specs.Book.{Call, declare, equate, withdraw, clear, Transition, childrenOf, Refusal, accepted, answer, Runs}
 use Rattle.base.proofs.ListLaws.{found-snoc}
@@ -14,9 +15,9 @@ use Rattle.graph.proofs.HeldLaws.{removed-length, Distinct, distinct-sn
 use Rattle.graph.proofs.AcceptLaws.{declare-accepted, equate-accepted, answer-keeps, runs-keep}
 
 pub record Limits (s : State) : Type 0 where
-  pub nodes-fit : length (s .nodes) ≤ 64
-  pub equations-fit : length (s .equations) ≤ 256
-  pub few-children : (u : ℕ) (n : Node) → NodeAt s u n → length (childrenOf n) ≤ 4
+  pub nodes-fit : length (s .nodes) ≤ nodeLimit
+  pub equations-fit : length (s .equations) ≤ equationLimit
+  pub few-children : (u : ℕ) (n : Node) → NodeAt s u n → length (childrenOf n) ≤ childLimit
   pub names-differ : Distinct (s .equations)
 
 pub limits-empty : Limits emptyState
@@ -33,7 +34,7 @@ limits-accepted s L (declare n) v =
     record {
       nodes-fit = omega (arith, d .room, length-append (s .nodes) (n ∷ []));
       equations-fit = L .equations-fit;
-      few-children = λ u m h. ⊎-elim (λ o. L .few-children u m o) (λ o. subst (λ (x : Node). length (childrenOf x) ≤ 4) (o .1) (d .few)) (found-snoc (s .nodes) n u m h);
+      few-children = λ u m h. ⊎-elim (λ o. L .few-children u m o) (λ o. subst (λ (x : Node). length (childrenOf x) ≤ childLimit) (o .1) (d .few)) (found-snoc (s .nodes) n u m h);
       names-differ = L .names-differ;
     }
 limits-accepted s L (equate e room) v =

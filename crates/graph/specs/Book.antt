@@ -11,6 +11,7 @@ use mathlib.Core.Option.{Option, none, some}
 use Prim.Native.Nat.{ℕ}
 use lib.ListN.{length}
 use lib.Dec.{eqb, ltb, leb}
+use Rattle.graph.specs.Limits.{nodeLimit, childLimit, equationLimit, bufferBytes}
 use Rattle.graph.specs.State.{Node, variable, functor, Equation, State, stateWith, emptyState, nameHeld, offered}
 use Rattle.graph.specs.Verdict.{Verdict}
 
@@ -49,17 +50,17 @@ abbrev pub childrenOf : Node → List ℕ
 childrenOf variable = []
 childrenOf (functor f cs) = cs
 
--- document 01's limits: 64 nodes, 4 children, 256 equations, 65,536 bytes of buffer
+-- the refusals that need no closure: of a limit (specs/Limits), of an unknown node, of a name
 abbrev pub early : State → Call → Option ℕ
 early s (declare n) =
-    cond (leb 64 (length (s .nodes))) (some 2)
-    (cond (ltb 4 (length (childrenOf n))) (some 3)
+    cond (leb nodeLimit (length (s .nodes))) (some 2)
+    (cond (ltb childLimit (length (childrenOf n))) (some 3)
     (cond (allBelow (length (s .nodes)) (childrenOf n)) none (some 4)))
 early s (equate e room) =
-    cond (ltb room 65536) (some 5)
+    cond (ltb room bufferBytes) (some 5)
     (cond (ltb (e .left) (length (s .nodes)) && ltb (e .right) (length (s .nodes)))
     (cond (nameHeld (e .name) (s .equations)) (some 6)
-    (cond (leb 256 (length (s .equations))) (some 7) none))
+    (cond (leb equationLimit (length (s .equations))) (some 7) none))
     (some 4))
 early s (withdraw n) = cond (nameHeld n (s .equations)) none (some 10)
 early s clear = none

@@ -8,6 +8,7 @@ use native.Mathlib.Nat.{le-of-suc-le-suc, eq-or-lt-of-le}
 use native.Mathlib.Omega.{arith}
 use lib.ListN.{length, take, getD, set, length-set, List·getD-append}
 use lib.Seq.{getD-set-same, getD-set-other, set-getD, paste, length-paste, take-paste, drop-paste, getD-take, getD-drop, getD-append-add, length-take-le}
+use Rattle.graph.specs.Limits.{nodeLimit, equationLimit}
 use Rattle.graph.specs.State.{variable, functor, equationOf, nameHeld}
 use Rattle.base.specs.Tab.{tab}
 use Rattle.base.proofs.TabLaws.{tab-same, tab-one-more}
@@ -29,10 +30,10 @@ tab-put n m f g a e old new = ap (λ k. tab k g) e ∙ tab-one-more n g ∙ ap�
 
 module _ (t : Terms) (room : t .count < length (t .kind)) where
   -- the place was an unused one, so its kind was 0 before
-  same-kind : TermsShape t → t .count < 64 → set (t .kind) (t .count) 0 ≡ t .kind
+  same-kind : TermsShape t → t .count < nodeLimit → set (t .kind) (t .count) 0 ≡ t .kind
   same-kind s h = ap (set (t .kind) (t .count)) (sym (s .unused-nodes (t .count) (omega arith) h)) ∙ set-getD (t .kind) (t .count) 0
 
-  variable-shape : t .count < 64 → TermsShape t → TermsShape (withVariable t)
+  variable-shape : t .count < nodeLimit → TermsShape t → TermsShape (withVariable t)
   variable-shape h s =
       let k : set (t .kind) (t .count) 0 ≡ t .kind = same-kind s h in
       record {
@@ -57,7 +58,7 @@ module _ (t : Terms) (room : t .count < length (t .kind)) where
       (rw (getD-set-same (t .kind) (t .count) 0 0 room))
 
   -- the struct by what was stored: each value is a fact of its own
-  pub puts-variable : t .count < 64 → (k : ℕ) → k ≡ 0
+  pub puts-variable : t .count < nodeLimit → (k : ℕ) → k ≡ 0
       → PutsNode t variable (withVariable t) (terms (t .count + 1) (set (t .kind) (t .count) k) (t .symbol) (t .arity) (t .child))
   puts-variable h k e =
       rw e (record { exact = refl; count = refl; nodes = λ s. variable-nodes; shape = variable-shape h })
@@ -172,7 +173,7 @@ module _ (t : Terms) (f : ℕ) (cs : List ℕ) (S : TermsShape t) (R : Room t cs
           let k : j < length cs = omega (arith, h, ap (arityAt (withFunctor t f cs)) q, arity-new) in
           rw q (rw (child-new j k) (below-each (t .count) cs (R .known) j k))
 
-      earlier-other : (u j : ℕ) → (u ≡ t .count → ⊥) → u < 64 → j < arityAt (withFunctor t f cs) u → childAt (withFunctor t f cs) u j < u
+      earlier-other : (u j : ℕ) → (u ≡ t .count → ⊥) → u < nodeLimit → j < arityAt (withFunctor t f cs) u → childAt (withFunctor t f cs) u j < u
       earlier-other u j d l h =
           let k : j < arityAt t u = rw (arity-other u d) at h in
           rw (child-other u j d (omega (arith, S .arities u l))) (S .earlier u j l k)
@@ -186,7 +187,7 @@ module _ (t : Terms) (f : ℕ) (cs : List ℕ) (S : TermsShape t) (R : Room t cs
       variable-new : (u : ℕ) → u ≡ t .count → kindAt (withFunctor t f cs) u ≡ 0 → ⊥
       variable-new u q e = omega (arith, ap (kindAt (withFunctor t f cs)) q, kind-new, e)
 
-      variable-other : (u : ℕ) → (u ≡ t .count → ⊥) → u < 64 → kindAt (withFunctor t f cs) u ≡ 0
+      variable-other : (u : ℕ) → (u ≡ t .count → ⊥) → u < nodeLimit → kindAt (withFunctor t f cs) u ≡ 0
           → (symbolAt (withFunctor t f cs) u ≡ 0) × (arityAt (withFunctor t f cs) u ≡ 0)
       variable-other u d l e =
           let v : (symbolAt t u ≡ 0) × (arityAt t u ≡ 0) = S .variables u l (sym (kind-other u d) ∙ e) in
@@ -203,12 +204,12 @@ puts-functor t f cs R k ek a ea child ec =
 
 -- the array's lengths, as the struct's own rule says
 pub record Full (e : Equations) : Type 0 where
-  pub names : length (e .name) ≡ 256
-  pub lefts : length (e .left) ≡ 256
-  pub rights : length (e .right) ≡ 256
+  pub names : length (e .name) ≡ equationLimit
+  pub lefts : length (e .left) ≡ equationLimit
+  pub rights : length (e .right) ≡ equationLimit
 
-module _ (e : Equations) (n u v : ℕ) (F : Full e) (room : e .count < 256) where
-  new : (l : List ℕ) (x i : ℕ) → length l ≡ 256 → i ≡ e .count → getD (set l (e .count) x) i 0 ≡ x
+module _ (e : Equations) (n u v : ℕ) (F : Full e) (room : e .count < equationLimit) where
+  new : (l : List ℕ) (x i : ℕ) → length l ≡ equationLimit → i ≡ e .count → getD (set l (e .count) x) i 0 ≡ x
   new l x i z q = ap (λ (j : ℕ). getD (set l (e .count) x) j 0) q ∙ getD-set-same l (e .count) x 0 (omega arith)
 
   other : (l : List ℕ) (x i : ℕ) → (i ≡ e .count → ⊥) → getD (set l (e .count) x) i 0 ≡ getD l i 0

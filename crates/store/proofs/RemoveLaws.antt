@@ -10,6 +10,7 @@ use lib.Dec.{eqb, ltb}
 use lib.ListN.{length, getD, set, length-set, List·getD-eq-default}
 use lib.Seq.{getD-set-same, getD-set-other, ext-getD}
 use borrow.Author.Tests.{eq-eqb, ne-eqb, lt-ltb, le-ltb}
+use Rattle.graph.specs.Limits.{equationLimit}
 use Rattle.graph.specs.State.{Equation, nameHeld}
 use Rattle.graph.specs.Book.{removed}
 use Rattle.base.specs.Tab.{tab}
@@ -180,12 +181,12 @@ module _ (e : Equations) (k : ℕ) (room : k < e .count) where
   }
     where
       -- past the last equation stood zeros, and the array's end
-      unused : (l : List ℕ) → length l ≡ 256 → ((i : ℕ) → e .count ≤ i → i < 256 → getD l i 0 ≡ 0)
-          → (i : ℕ) → e .count - 1 ≤ i → i < 256 → getD l (skip k i) 0 ≡ 0
+      unused : (l : List ℕ) → length l ≡ equationLimit → ((i : ℕ) → e .count ≤ i → i < equationLimit → getD l i 0 ≡ 0)
+          → (i : ℕ) → e .count - 1 ≤ i → i < equationLimit → getD l (skip k i) 0 ≡ 0
       unused l z u i h g =
           let q : skip k i ≡ suc i = skip-after k i (omega arith) in
           ap (λ (j : ℕ). getD l j 0) q
-          ∙ ⊎-elim (λ p. u (suc i) (omega arith) p) (λ p. List·getD-eq-default l 0 (omega arith)) (below-or-from 256 (suc i))
+          ∙ ⊎-elim (λ p. u (suc i) (omega arith) p) (λ p. List·getD-eq-default l 0 (omega arith)) (below-or-from equationLimit (suc i))
 
 module _ (e : Equations) (n k : ℕ) (at : First (e .name) (e .count) n k) where
   removes : k < e .count → Removes e n (record { found = true; equations = withoutPlace k e })
