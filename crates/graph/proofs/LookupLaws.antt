@@ -1,9 +1,9 @@
 -- What a lookup of the checker's definition that found something says.
 --   IfSome, All                  a property of what is there, if anything is; of each element
 --   named-held, functor-at       an equation found by its name is held; a functor found stands there
---   labels-equal, equal-labels   the label test says what `EqualLabels` says
+--   labels-equal, equal-labels   the label test says what equal labels are
 use mathlib.Core.Path.{_≡_, refl, subst}
-use mathlib.Core.Bool.{Bool, true, false, cond, and-false}
+use mathlib.Core.Bool.{Bool, true, false, _&&_, cond}
 use mathlib.Core.List.{List, [], _∷_, _++_}
 use mathlib.Core.Option.{Option, none, some}
 use Prim.Native.Nat.{ℕ, zero, suc}
@@ -11,9 +11,9 @@ use native.Mathlib.Omega.{arith}
 use lib.ListN.{length, getElem?}
 use lib.Dec.{eqb}
 use borrow.Author.Tests.{eqb-true, eq-eqb}
-use Rattle.graph.specs.State.{Node, functor, Equation, variable, EqualLabels}
+use Rattle.graph.specs.State.{Node, variable, functor, Equation, SameLabel, sameLabel, EqualLabels}
 use Rattle.graph.specs.Lines.{try, need, named, Functor, functorOf, functorAt, equalLabels}
-use Rattle.base.proofs.BoolLaws.{and-both}
+use Rattle.base.proofs.BoolLaws.{and-left, and-right, and-both}
 
 -- P of what is there, if anything is
 abbrev pub IfSome : {A : Type 0} → (A → Type 0) → Option A → Type 0
@@ -66,19 +66,19 @@ functor-at ns u k h = go (getElem? ns u) h
     go (some variable) q = absurd (let z : _≡_ {A = ℕ} 0 1 = cc in omega arith)
     go (some (functor f cs)) q = cc
 
--- the label test says what `EqualLabels` says
+-- the label test says what a label is
+module _ (f a g b : ℕ) where
+  test-label : sameLabel f a g b ≡ true → SameLabel f a g b
+  test-label e =
+      let q : eqb f g && eqb a b ≡ true = cc in
+      (omega (arith, eqb-true f g (and-left (eqb f g) (eqb a b) q)), omega (arith, eqb-true a b (and-right (eqb f g) (eqb a b) q)))
+
+  label-test : SameLabel f a g b → sameLabel f a g b ≡ true
+  label-test h = and-both (eqb f g) (eqb a b) (eq-eqb f g (omega (arith, h .0))) (eq-eqb a b (omega (arith, h .1)))
+
 module _ (k m : Functor) where
-  symbols-equal : (t : Bool) → eqb (k .symbol) (m .symbol) ≡ t → equalLabels k m ≡ true → k .symbol ≡ m .symbol
-  symbols-equal true q e = eqb-true _ _ q
-  symbols-equal false q e = absurd (let z : _≡_ {A = ℕ} 0 1 = cc in omega arith)
-
-  lengths-equal : (t : Bool) → eqb (length (k .children)) (length (m .children)) ≡ t → equalLabels k m ≡ true → length (k .children) ≡ length (m .children)
-  lengths-equal true q e = eqb-true _ _ q
-  lengths-equal false q e = absurd (let z : _≡_ {A = ℕ} 0 1 = cc (and-false (eqb (k .symbol) (m .symbol))) in omega arith)
-
   pub labels-equal : equalLabels k m ≡ true → EqualLabels (k .symbol) (k .children) (m .symbol) (m .children)
-  labels-equal e = (omega (arith, symbols-equal _ refl e), omega (arith, lengths-equal _ refl e))
+  labels-equal = test-label (k .symbol) (length (k .children)) (m .symbol) (length (m .children))
 
   pub equal-labels : EqualLabels (k .symbol) (k .children) (m .symbol) (m .children) → equalLabels k m ≡ true
-  equal-labels h =
-      and-both (eqb (k .symbol) (m .symbol)) (eqb (length (k .children)) (length (m .children))) (eq-eqb (k .symbol) (m .symbol) (omega arith)) (eq-eqb (length (k .children)) (length (m .children)) (omega arith))
+  equal-labels = label-test (k .symbol) (length (k .children)) (m .symbol) (length (m .children))
