@@ -6,7 +6,7 @@ use Prim.Native.Nat.{ℕ, zero, suc, _+_, _≤_, _<_}
 use native.Mathlib.Nat.{le-of-suc-le-suc, not-suc-le-zero}
 use native.Mathlib.Numerals.{add-one}
 use native.Mathlib.Omega.{arith}
-use lib.ListN.{length, take, getD, getElem?}
+use lib.ListN.{length, getD, getElem?}
 use Rattle.base.specs.Tab.{tab}
 
 module _ {A : Type 0} where
@@ -53,12 +53,6 @@ module _ {A : Type 0} where
   tab-same zero f g h = refl
   tab-same (suc n) f g h =
       ap₂ (λ (x : A) (r : List A). x ∷ r) (h 0 (omega arith)) (tab-same n (λ i. f (suc i)) (λ i. g (suc i)) (λ i k. h (suc i) (omega arith)))
-
-  pub tab-take : (m n : ℕ) (f : ℕ → A) → m ≤ n → take m (tab n f) ≡ tab m f
-  unfolding tab
-  tab-take zero n f h = refl
-  tab-take (suc m) zero f h = absurd (not-suc-le-zero h)
-  tab-take (suc m) (suc n) f h = ap (λ (r : List A). f 0 ∷ r) (tab-take m n (λ i. f (suc i)) (le-of-suc-le-suc h))
 
   -- one more at the end, at the code's n + 1
   pub tab-one-more : (n : ℕ) (f : ℕ → A) → tab (n + 1) f ≡ tab n f ++ (f n ∷ [])

@@ -14,11 +14,12 @@ use borrow.Author.Tests.{ltb-true, ltb-false, leb-false, ne-eqb}
 use Rattle.graph.specs.Limits.{nodeLimit, childLimit, equationLimit, bufferBytes}
 use Rattle.graph.specs.State.{Node, Equation, State, nameHeld}
 use Rattle.graph.specs.Book.{Call, declare, equate, Transition, allBelow, childrenOf, early, Late, Else, Refusal, accepted, answer, Runs, over, step}
+use Rattle.base.proofs.AbsurdLaws.{zero-is-one}
 use Rattle.base.proofs.BoolLaws.{and-left, and-right}
 
 -- a call that the lists refuse is refused
 refused-so : (o : Option ℕ) (L : ℕ → Type 0) (n : ℕ) → o ≡ some (suc n) → Else o L 0 → ⊥
-refused-so none L n e v = absurd (let z : _≡_ {A = ℕ} 0 1 = cc in omega arith)
+refused-so none L n e v = zero-is-one cc
 refused-so (some m) L n e v = let q : m ≡ suc n = cc in omega arith
 
 -- when declare is refused by the lists, in document 01's order

@@ -5,12 +5,12 @@ use mathlib.Core.Bool.{Bool, true, false, cond}
 use mathlib.Core.List.{List, [], _∷_, _++_}
 use mathlib.Core.Option.{Option, none, some}
 use Prim.Native.Nat.{ℕ, zero, suc}
-use native.Mathlib.Omega.{arith}
 use lib.Dec.{eqb}
 use borrow.Author.Tests.{eq-eqb}
 use Rattle.graph.specs.State.{Equation, State, nameHeld}
 use Rattle.graph.specs.Lines.{Line, Claim, try, need, named, claimOfEquation, byEquation, tidy, byRule, claimOf, LineClaims, all, broken, onAll, more, lineClaims}
 use Rattle.graph.specs.Goals.{Goal, ended, passed, judgeEnd, Passes, Cites}
+use Rattle.base.proofs.AbsurdLaws.{zero-is-one}
 
 -- Q where something is there
 abbrev If : {A : Type 0} → Type 0 → Option A → Type 0
@@ -19,7 +19,7 @@ If Q (some a) = Q
 
 named-known : (es : List Equation) (n : ℕ) (o : Option Claim) → try (named es n) claimOfEquation ≡ o → If (nameHeld n es ≡ true) o
 named-known [] n none h = tt
-named-known [] n (some c) h = absurd (let z : _≡_ {A = ℕ} 0 1 = cc in omega arith)
+named-known [] n (some c) h = zero-is-one cc
 named-known (e ∷ es) n o h = go (eqb (e .name) n) o h (named-known es n o)
   where
     go : (t : Bool) (o : Option Claim) → try (cond t (some e) (named es n)) claimOfEquation ≡ o → (try (named es n) claimOfEquation ≡ o → If (nameHeld n es ≡ true) o)
@@ -56,7 +56,7 @@ module _ (s : State) where
 
   lines-cite : (done : List Claim) (ls : List Line) → IfCited ls (lineClaims s done ls)
   unfolding IfCited
-  lines-cite done [] = λ i l h e. absurd (let z : _≡_ {A = ℕ} 0 1 = cc in omega arith)
+  lines-cite done [] = λ i l h e. zero-is-one cc
   lines-cite done (l ∷ ls) = go (claimOf s done l) (line-cites done l) (λ next. lines-cite next ls)
     where
       go : (o : Option Claim) → (l .rule ≡ 1 → If (nameHeld (l .first) (s .equations) ≡ true) o) → ((next : List Claim) → IfCited ls (lineClaims s next ls))
@@ -70,4 +70,4 @@ module _ (s : State) where
     where
       go : (r : LineClaims) → judgeEnd (s .nodes) g (ended r) ≡ passed → IfCited ls r → Cites s ls
       go (all cs) q w = w
-      go (broken k) q w = absurd (let z : _≡_ {A = ℕ} 0 1 = cc in omega arith)
+      go (broken k) q w = zero-is-one cc

@@ -13,6 +13,7 @@ use borrow.Author.Tests.{ne-eqb, eqb-false}
 use Rattle.graph.specs.State.{Equation, State, stateWith, nameHeld}
 use Rattle.graph.specs.Book.{removed}
 use Rattle.graph.proofs.SolutionLaws.{Fewer}
+use Rattle.base.proofs.AbsurdLaws.{zero-is-one}
 
 -- what is left after a withdrawal stood there before
 pub removed-in : (n : ℕ) (es : List Equation) (i : ℕ) (e : Equation) → getElem? (removed n es) i ≡ some e → (j : ℕ) × (getElem? es j ≡ some e)
@@ -68,7 +69,7 @@ distinct-snoc (d ∷ es) e w h = go (eqb (d .name) (e .name)) refl h (distinct-s
   where
     go : (t : Bool) → eqb (d .name) (e .name) ≡ t → cond t true (nameHeld (e .name) es) ≡ false → (nameHeld (e .name) es ≡ false → Distinct (es ++ (e ∷ [])))
         → Distinct ((d ∷ es) ++ (e ∷ []))
-    go true q h r = absurd (let z : _≡_ {A = ℕ} 0 1 = cc in omega arith)
+    go true q h r = zero-is-one cc
     go false q h r = (held-snoc (d .name) es e (w .0) (λ p. eqb-false (d .name) (e .name) q (sym p)), r h)
 
 pub distinct-removed : (n : ℕ) (es : List Equation) → Distinct es → Distinct (removed n es)

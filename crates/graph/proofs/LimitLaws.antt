@@ -1,7 +1,7 @@
 -- The book's calls keep document 01's limits.
 --   Limits                       of nodes, of children, of equations, and names all different
 --   limits-answer, limits-runs   after every answer and every list of calls
-use mathlib.Core.Path.{_≡_, subst}
+use mathlib.Core.Path.{subst}
 use mathlib.Core.Logic.{⊎-elim}
 use mathlib.Core.List.{List, [], _∷_}
 use Prim.Native.Nat.{ℕ, _≤_}
@@ -10,6 +10,7 @@ use lib.ListN.{length, length-append}
 use Rattle.graph.specs.Limits.{nodeLimit, childLimit, equationLimit}
 use Rattle.graph.specs.State.{Node, State, emptyState, NodeAt}
 use Rattle.graph.specs.Book.{Call, declare, equate, withdraw, clear, Transition, childrenOf, Refusal, accepted, answer, Runs}
+use Rattle.base.proofs.AbsurdLaws.{zero-is-one}
 use Rattle.base.proofs.ListLaws.{found-snoc}
 use Rattle.graph.proofs.HeldLaws.{removed-length, Distinct, distinct-snoc, distinct-removed}
 use Rattle.graph.proofs.AcceptLaws.{declare-accepted, equate-accepted, answer-keeps, runs-keep}
@@ -24,7 +25,7 @@ pub limits-empty : Limits emptyState
 limits-empty = record {
   nodes-fit = omega arith;
   equations-fit = omega arith;
-  few-children = λ u n h. absurd (let z : _≡_ {A = ℕ} 0 1 = cc in omega arith);
+  few-children = λ u n h. zero-is-one cc;
   names-differ = tt;
 }
 

@@ -13,6 +13,7 @@ use lib.Dec.{eqb}
 use borrow.Author.Tests.{eqb-true, eq-eqb}
 use Rattle.graph.specs.State.{Node, variable, functor, Equation, SameLabel, sameLabel, EqualLabels}
 use Rattle.graph.specs.Lines.{try, need, named, Functor, functorOf, functorAt, equalLabels}
+use Rattle.base.proofs.AbsurdLaws.{zero-is-one}
 use Rattle.base.proofs.BoolLaws.{and-left, and-right, and-both}
 
 -- P of what is there, if anything is
@@ -39,7 +40,7 @@ module _ {A : Type 0} (P : A → Type 0) where
   try-ok (some x) f h = h x refl
 
   pub all-at : (l : List A) → All P l → (i : ℕ) (a : A) → getElem? l i ≡ some a → P a
-  all-at [] w i a h = absurd (let z : _≡_ {A = ℕ} 0 1 = cc in omega arith)
+  all-at [] w i a h = zero-is-one cc
   all-at (x ∷ xs) w zero a h = let e : x ≡ a = cc in subst P e (w .0)
   all-at (x ∷ xs) w (suc i) a h = all-at xs (w .1) i a h
 
@@ -50,7 +51,7 @@ module _ {A : Type 0} (P : A → Type 0) where
 -- ---- what a lookup that found something says
 
 pub named-held : (es : List Equation) (n : ℕ) (e : Equation) → named es n ≡ some e → (i : ℕ) × (getElem? es i ≡ some e)
-named-held [] n e h = absurd (let z : _≡_ {A = ℕ} 0 1 = cc in omega arith)
+named-held [] n e h = zero-is-one cc
 named-held (d ∷ es) n e h = go (eqb (d .name) n) h (named-held es n e)
   where
     go : (t : Bool) → cond t (some d) (named es n) ≡ some e → (named es n ≡ some e → (i : ℕ) × (getElem? es i ≡ some e))
@@ -62,8 +63,8 @@ pub functor-at : (ns : List Node) (u : ℕ) (k : Functor) → functorAt ns u ≡
 functor-at ns u k h = go (getElem? ns u) h
   where
     go : (o : Option Node) → try o functorOf ≡ some k → o ≡ some (functor (k .symbol) (k .children))
-    go none q = absurd (let z : _≡_ {A = ℕ} 0 1 = cc in omega arith)
-    go (some variable) q = absurd (let z : _≡_ {A = ℕ} 0 1 = cc in omega arith)
+    go none q = zero-is-one cc
+    go (some variable) q = zero-is-one cc
     go (some (functor f cs)) q = cc
 
 -- the label test says what a label is

@@ -13,6 +13,7 @@ use lib.Dec.{ltb}
 use borrow.Author.Tests.{ltb-true}
 use Rattle.graph.specs.State.{Node, functor, Equation, State, stateWith, emptyState, Proper, offered}
 use Rattle.graph.specs.Book.{Call, declare, equate, withdraw, clear, Transition, removed, allBelow, childrenOf, Refusal, accepted, answer, Runs}
+use Rattle.base.proofs.AbsurdLaws.{zero-is-one}
 use Rattle.base.proofs.ListLaws.{found-snoc}
 use Rattle.graph.proofs.SolutionLaws.{proper-fewer}
 use Rattle.graph.proofs.HeldLaws.{removed-fewer}
@@ -20,20 +21,20 @@ use Rattle.graph.proofs.AcceptLaws.{declare-accepted, equate-accepted, 
 
 -- numbers that are all below k: each is
 pub below-at : (k : ℕ) (cs : List ℕ) (i v : ℕ) → allBelow k cs ≡ true → getElem? cs i ≡ some v → v < k
-below-at k [] i v a h = absurd (let z : _≡_ {A = ℕ} 0 1 = cc in omega arith)
+below-at k [] i v a h = zero-is-one cc
 below-at k (c ∷ cs) i v a h = go (ltb c k) refl i a h (below-at k cs)
   where
     go : (t : Bool) → ltb c k ≡ t → (i : ℕ) → t && allBelow k cs ≡ true → getElem? (c ∷ cs) i ≡ some v
         → ((i v : ℕ) → allBelow k cs ≡ true → getElem? cs i ≡ some v → v < k) → v < k
     go true e zero a h r = let q : c ≡ v = cc in subst (λ (x : ℕ). x < k) q (ltb-true c k e)
     go true e (suc i) a h r = r i v a h
-    go false e i a h r = absurd (let z : _≡_ {A = ℕ} 0 1 = cc in omega arith)
+    go false e i a h r = zero-is-one cc
 
 pub proper-empty : Proper emptyState
 proper-empty = record {
-  earlier = λ u f i v cs n c. absurd (let z : _≡_ {A = ℕ} 0 1 = cc in omega arith);
-  left-known = λ e h. absurd (let q = h .1 in let z : _≡_ {A = ℕ} 0 1 = cc in omega arith);
-  right-known = λ e h. absurd (let q = h .1 in let z : _≡_ {A = ℕ} 0 1 = cc in omega arith);
+  earlier = λ u f i v cs n c. zero-is-one cc;
+  left-known = λ e h. zero-is-one (cc (h .1));
+  right-known = λ e h. zero-is-one (cc (h .1));
 }
 
 module _ (s : State) (P : Proper s) where

@@ -15,6 +15,7 @@ use Rattle.graph.specs.State.{Node, functor, Equation, State, stateWith,
 use Rattle.graph.specs.Solution.{Classes, Solution}
 use Rattle.graph.specs.Book.{declare, equate, withdraw, clear, removed, allBelow, childrenOf, Refusal, answer}
 use Rattle.base.specs.Sum.{sumTo}
+use Rattle.base.proofs.AbsurdLaws.{zero-is-one}
 use Rattle.base.proofs.ListLaws.{found-lt, found-snoc}
 use Rattle.base.proofs.CaseLaws.{below-or-from}
 use Rattle.base.proofs.SumLaws.{sum-at}
@@ -28,12 +29,12 @@ solution-empty = record {
   classes = record {
     class = λ u. 0;
     equated = λ e h. refl;
-    label = λ u v f g cs ds m. absurd (let z : _≡_ {A = ℕ} 0 1 = cc in omega arith);
-    place = λ u v f g i x y cs ds m. absurd (let z : _≡_ {A = ℕ} 0 1 = cc in omega arith);
+    label = λ u v f g cs ds m. zero-is-one cc;
+    place = λ u v f g i x y cs ds m. zero-is-one cc;
   };
   height = λ u. 0;
   level = λ u v p q e. refl;
-  lower = λ u f i v cs m. absurd (let z : _≡_ {A = ℕ} 0 1 = cc in omega arith);
+  lower = λ u f i v cs m. zero-is-one cc;
 }
 
 pub solution-removed : (s : State) (n : ℕ) → Solution s → Solution (stateWith (s .nodes) (removed n (s .equations)))

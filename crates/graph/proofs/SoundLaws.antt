@@ -7,7 +7,6 @@ use mathlib.Core.Bool.{Bool, true, false, cond}
 use mathlib.Core.List.{List, [], _∷_}
 use mathlib.Core.Option.{Option, none, some}
 use Prim.Native.Nat.{ℕ, zero, suc}
-use native.Mathlib.Omega.{arith}
 use lib.ListN.{length, getElem?}
 use lib.Dec.{eqb, ltb}
 use borrow.Author.Tests.{ltb-true, eqb-true}
@@ -15,6 +14,7 @@ use Rattle.graph.specs.State.{functor, State, NodeAt}
 use Rattle.graph.specs.Closure.{Same, equation, reflexivity, symmetry, transitivity, down, Below, child, same-below, below-same, below-below, Clash}
 use Rattle.graph.specs.Lines.{Line, Claim, same, below, Holds, named, Functor, functorAt, equalLabels, claimOfEquation, byEquation, byChild, byReflexivity, symmetryOf, transitivityOf, downTo, downOf, tidy, byRule, claimOf, LineClaims, all, broken, onAll, more, lineClaims}
 use Rattle.graph.specs.Goals.{Goal, clash-goal, cycle-goal, same-goal, below-goal, Meaning, labelsDiffer, shows, Ended, ends, breaks, empty, lastOf, ended, passed, refused, judgeEnd, Passes}
+use Rattle.base.proofs.AbsurdLaws.{zero-is-one}
 use Rattle.base.proofs.BoolLaws.{and-left, and-right, not-true}
 use Rattle.graph.proofs.LookupLaws.{IfSome, All, need-ok, cond-ok, try-ok, all-at, all-snoc, named-held, functor-at, labels-equal, equal-labels}
 
@@ -94,8 +94,8 @@ module _ (s : State) where
   -- ---- what a claim shows
 
   differ-ok : (u v : ℕ) → Same s u v → (o p : Option Functor) → functorAt (s .nodes) u ≡ o → functorAt (s .nodes) v ≡ p → labelsDiffer o p ≡ true → Clash s
-  differ-ok u v h none p q r e = absurd (let z : _≡_ {A = ℕ} 0 1 = cc in omega arith)
-  differ-ok u v h (some k) none q r e = absurd (let z : _≡_ {A = ℕ} 0 1 = cc in omega arith)
+  differ-ok u v h none p q r e = zero-is-one cc
+  differ-ok u v h (some k) none q r e = zero-is-one cc
   differ-ok u v h (some k) (some m) q r e = record {
     u = u;
     v = v;
@@ -111,12 +111,12 @@ module _ (s : State) where
 
   pub shows-ok : (g : Goal) (c : Claim) → Holds s c → shows (s .nodes) g c ≡ true → Meaning s g
   shows-ok clash-goal (same u v) h e = differ-ok u v h (functorAt (s .nodes) u) (functorAt (s .nodes) v) refl refl e
-  shows-ok clash-goal (below u v) h e = absurd (let z : _≡_ {A = ℕ} 0 1 = cc in omega arith)
-  shows-ok cycle-goal (same u v) h e = absurd (let z : _≡_ {A = ℕ} 0 1 = cc in omega arith)
+  shows-ok clash-goal (below u v) h e = zero-is-one cc
+  shows-ok cycle-goal (same u v) h e = zero-is-one cc
   shows-ok cycle-goal (below u v) h e = record { u = u; back = rw (← eqb-true u v e) at h }
   shows-ok (same-goal x y) (same u v) h e = rw (eqb-true x u (and-left (eqb x u) (eqb y v) e), eqb-true y v (and-right (eqb x u) (eqb y v) e)) h
-  shows-ok (same-goal x y) (below u v) h e = absurd (let z : _≡_ {A = ℕ} 0 1 = cc in omega arith)
-  shows-ok (below-goal x y) (same u v) h e = absurd (let z : _≡_ {A = ℕ} 0 1 = cc in omega arith)
+  shows-ok (same-goal x y) (below u v) h e = zero-is-one cc
+  shows-ok (below-goal x y) (same u v) h e = zero-is-one cc
   shows-ok (below-goal x y) (below u v) h e = rw (eqb-true x u (and-left (eqb x u) (eqb y v) e), eqb-true y v (and-right (eqb x u) (eqb y v) e)) h
 
   abbrev IfEnds : Ended → Type 0
@@ -138,9 +138,9 @@ module _ (s : State) where
     where
       go : (t : Bool) → shows (s .nodes) g c ≡ t → cond t passed (refused 13) ≡ passed → Meaning s g
       go true r q = shows-ok g c w r
-      go false r q = absurd (let z : _≡_ {A = ℕ} 0 1 = cc in omega arith)
-  judge-ok g (breaks k) w q = absurd (let z : _≡_ {A = ℕ} 0 1 = cc in omega arith)
-  judge-ok g empty w q = absurd (let z : _≡_ {A = ℕ} 0 1 = cc in omega arith)
+      go false r q = zero-is-one cc
+  judge-ok g (breaks k) w q = zero-is-one cc
+  judge-ok g empty w q = zero-is-one cc
 
   -- what the lines that pass were to show is true
   pub judge-sound : (g : Goal) (ls : List Line) → Passes s g ls → Meaning s g

@@ -1,6 +1,6 @@
 -- One node, one equation more at the end: the lists get longer by it, and the shape stays.
 use mathlib.Core.Path.{_≡_, refl, sym, ap, ap₂, _∙_}
-use mathlib.Core.Bool.{Bool, true, false}
+use mathlib.Core.Bool.{false}
 use mathlib.Core.Logic.{⊎-elim}
 use mathlib.Core.List.{List, [], _∷_, _++_}
 use Prim.Native.Nat.{ℕ, _+_, _*_, _-_, _≤_, _<_}
@@ -11,6 +11,7 @@ use lib.Seq.{getD-set-same, getD-set-other, set-getD, paste, length-paste, take-
 use Rattle.graph.specs.Limits.{nodeLimit, equationLimit}
 use Rattle.graph.specs.State.{variable, functor, equationOf, nameHeld}
 use Rattle.base.specs.Tab.{tab}
+use Rattle.base.proofs.AbsurdLaws.{true-is-false}
 use Rattle.base.proofs.TabLaws.{tab-same, tab-one-more}
 use Rattle.store.specs.Views.{terms, equations, kindAt, symbolAt, arityAt, childAt, childrenAt, nodeAt, nodesOf, equationAt, equationsOf}
 use Rattle.store.specs.Shape.{TermsShape, EquationsShape}
@@ -243,10 +244,7 @@ module _ (e : Equations) (n u v : ℕ) (F : Full e) (room : e .count < equationL
       before i h d = ⊎-elim (λ q. absurd (d q)) (λ q. q) (eq-or-lt-of-le (le-of-suc-le-suc (omega (arith, h))))
 
       new-name : (i : ℕ) → i < e .count → getD (e .name) i 0 ≡ n → ⊥
-      new-name i h q =
-          let z : _≡_ {A = Bool} true false = sym (held-at n (e .count) (equationAt e) i h q) ∙ unheld in
-          let y : _≡_ {A = ℕ} 0 1 = cc in
-          omega arith
+      new-name i h q = true-is-false (sym (held-at n (e .count) (equationAt e) i h q) ∙ unheld)
 
   -- the struct by the places that were stored to
   pub puts-equation : (i j k : ℕ) → i ≡ e .count → j ≡ e .count → k ≡ e .count

@@ -14,6 +14,7 @@ use Rattle.graph.specs.Limits.{equationLimit}
 use Rattle.graph.specs.State.{Equation, nameHeld}
 use Rattle.graph.specs.Book.{removed}
 use Rattle.base.specs.Tab.{tab}
+use Rattle.base.proofs.AbsurdLaws.{true-is-false}
 use Rattle.base.proofs.TabLaws.{tab-length, tab-getD, tab-same}
 use Rattle.store.specs.Views.{equations, equationAt, equationsOf}
 use Rattle.store.specs.Shape.{EquationsShape}
@@ -195,7 +196,7 @@ module _ (e : Equations) (n k : ℕ) (at : First (e .name) (e .count) n k) where
     found = sym (held-first e n k at h);
     held = list (e .count - 1) (omega arith);
     exact = λ j f l. ap (λ (i : ℕ). withoutPlace i e) (first-one (e .name) (e .count) n k j at f);
-    kept = λ no. absurd (let z : _≡_ {A = Bool} true false = sym (held-first e n k at h) ∙ no in let y : _≡_ {A = ℕ} 0 1 = cc in omega arith);
+    kept = λ no. true-is-false (sym (held-first e n k at h) ∙ no);
     shape = shape-after e k h;
   }
     where
