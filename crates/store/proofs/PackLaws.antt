@@ -2,9 +2,9 @@
 use mathlib.Core.Path.{_≡_, refl, sym, ap, ap₂, _∙_}
 use mathlib.Core.Bool.{Bool, true, false, cond}
 use mathlib.Core.Logic.{⊎-elim}
-use mathlib.Core.List.{List, [], _∷_}
+use mathlib.Core.List.{List}
 use mathlib.Core.Option.{some}
-use Prim.Native.Nat.{ℕ, suc, _+_, _*_, _/_, _%_, _≤_, _<_}
+use Prim.Native.Nat.{ℕ, _+_, _*_, _/_, _%_, _≤_, _<_}
 use native.Mathlib.Nat.{eq-or-lt-of-le, mod-lt, mod-eq-of-lt, div-eq-of-lt, div-add-mod, mul-add-mod-self-left, mul-add-div}
 use native.Mathlib.Omega.{arith}
 use lib.Dec.{eqb}
@@ -14,19 +14,14 @@ use Rattle.graph.specs.Limits.{nodeLimit, childLimit, equationLimit}
 use Rattle.graph.specs.State.{Node, variable, functor, Equation}
 use Rattle.base.specs.Tab.{tab}
 use Rattle.base.proofs.ListLaws.{found-lt}
-use Rattle.base.proofs.TabLaws.{tab-length, tab-at, tab-past, tab-getD, tab-same}
+use Rattle.base.proofs.TabLaws.{tab-length, tab-at, tab-past, tab-getD, tab-same, tab-found, tab-list, array-tab}
 use Rattle.store.specs.Views.{kindAt, symbolAt, arityAt, childAt, childrenAt, nodeAt, nodesOf, equationAt, equationsOf, orZero, column, kindOf, symbolOf, arityOf, childOf, packTerms, packEquations}
 use Rattle.store.specs.Shape.{TermsShape, EquationsShape}
 use Rattle.store.specs.declared.Terms.{Terms}
 use Rattle.store.specs.declared.Equations.{Equations}
 use Rattle.base.proofs.CaseLaws.{below-or-from}
-use Rattle.store.proofs.ViewLaws.{tab-list}
 
 -- ---- columns
-
--- an array is the table of its elements
-array-tab : (n : ℕ) (l : List ℕ) → length l ≡ n → tab n (λ i. getD l i 0) ≡ l
-array-tab n l e = ap (λ (k : ℕ). tab k (λ i. getD l i 0)) (sym e) ∙ tab-list 0 l
 
 -- the column of a table, where the array has f's values below m and zeros after
 column-of : {A : Type 0} (n m : ℕ) (f : A → ℕ) (g : ℕ → A) (l : List ℕ) → length l ≡ n
@@ -39,12 +34,6 @@ column-of n m f g l z used unused =
 -- what a column holds at the place of an element
 column-at : {A : Type 0} (n : ℕ) (f : A → ℕ) (l : List A) (i : ℕ) (a : A) → i < n → getElem? l i ≡ some a → getD (column n f l) i 0 ≡ f a
 column-at n f l i a h e = tab-getD n (λ j. orZero f (getElem? l j)) i 0 h ∙ ap (orZero f) e
-
--- a list is the table of any function that has its elements
-tab-found : {A : Type 0} (l : List A) (f : ℕ → A) → ((i : ℕ) (a : A) → getElem? l i ≡ some a → f i ≡ a) → tab (length l) f ≡ l
-unfolding tab
-tab-found [] f h = refl
-tab-found (x ∷ xs) f h = ap₂ (λ y r. y ∷ r) (h 0 x refl) (tab-found xs (λ i. f (suc i)) (λ i a e. h (suc i) a e))
 
 -- ---- equations
 

@@ -1,34 +1,20 @@
 -- The arrays read as lists: how many stand there, what is found at a place, and what a find tells of the arrays.
-use mathlib.Core.Path.{_≡_, refl, sym, ap, _∙_}
+use mathlib.Core.Path.{_≡_, refl, ap, _∙_}
 use mathlib.Core.Bool.{Bool, true, false, cond}
-use mathlib.Core.List.{List, [], _∷_}
+use mathlib.Core.List.{List}
 use mathlib.Core.Option.{some}
 use Prim.Native.Nat.{ℕ, _<_}
 use native.Mathlib.Omega.{arith}
 use lib.Dec.{eqb}
-use lib.ListN.{length, getD, getElem?}
+use lib.ListN.{length, getElem?}
 use borrow.Author.Tests.{eq-eqb, ne-eqb, eqb-true}
 use Rattle.graph.specs.State.{Node, variable, functor, Equation, IsNode, NodeAt, ChildAt, Held, Proper}
-use Rattle.base.specs.Tab.{tab}
 use Rattle.base.proofs.AbsurdLaws.{zero-is-one}
-use Rattle.base.proofs.ListLaws.{found-lt}
-use Rattle.base.proofs.TabLaws.{tab-length, tab-at}
+use Rattle.base.proofs.TabLaws.{tab-length, tab-at, tab-known}
 use Rattle.store.specs.Views.{kindAt, symbolAt, arityAt, childAt, childrenAt, nodeAt, nodesOf, equationAt, equationsOf, stateFrom}
 use Rattle.store.specs.Shape.{Shape}
 use Rattle.store.specs.declared.Terms.{Terms}
 use Rattle.store.specs.declared.Equations.{Equations}
-
-pub tab-known : {A : Type 0} (n : ℕ) (f : ℕ → A) (i : ℕ) (a : A) → getElem? (tab n f) i ≡ some a → (i < n) × (f i ≡ a)
-tab-known n f i a h =
-    let l : i < n = omega (arith, found-lt (tab n f) i a h, tab-length n f) in
-    let e : some (f i) ≡ some a = sym (tab-at n f i l) ∙ h in
-    (l, cc)
-
--- a list is the table of its elements
-pub tab-list : {A : Type 0} (d : A) (l : List A) → tab (length l) (λ i. getD l i d) ≡ l
-unfolding tab
-tab-list d [] = refl
-tab-list d (x ∷ xs) = ap (λ (r : List _). x ∷ r) (tab-list d xs)
 
 -- ---- nodes
 
