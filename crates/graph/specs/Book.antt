@@ -1,9 +1,14 @@
 -- Document 01's book at work: what it replies to a call, and what the call does to its two lists.
---   Call        declare (both ways), equate with the buffer's length, withdraw, clear
---   early       the first refusal that the two lists decide, in document 01's order; refusal 1 never applies
---   Refusal     the number of a call's refusal, 0 where it isn't refused; 8 and 9 come from the verdict of held and offered
---   answer      the reply, and the lists after the call
---   Runs        the answers to a list of calls, and the state after it
+--   Call         declare (both ways), equate with the buffer's length, withdraw, clear
+--   BookReply    a node's number, held, gone, cleared, or a refusal's number
+--   Transition, transition     a reply, and the state after the call
+--   removed, allBelow, childrenOf    equations without a name's; numbers below a bound; a node's children
+--   early        the first refusal that the two lists decide, in document 01's order; refusal 1 never applies
+--   Late, Else   what the closure says of a call; where `early` refuses, that
+--   Refusal      the number of a call's refusal, 0 where it isn't refused; 8 and 9 come from the verdict of held and offered
+--   accepted     the reply to a call that isn't refused, and the lists after it
+--   answer       the reply to any call, and the lists after it
+--   Runs         the answers to a list of calls, and the state after it
 use mathlib.Core.Path.{_≡_}
 use mathlib.Core.Bool.{Bool, true, _&&_, cond}
 use mathlib.Core.List.{List, [], _∷_, _++_}
