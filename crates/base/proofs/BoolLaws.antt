@@ -1,8 +1,7 @@
 -- What a test that passed says of its parts.
 use mathlib.Core.Path.{_≡_, refl}
 use mathlib.Core.Bool.{Bool, true, false, not, _&&_, _||_}
-use Prim.Native.Nat.{ℕ}
-use native.Mathlib.Omega.{arith}
+use Rattle.base.proofs.AbsurdLaws.{zero-is-one}
 
 pub and-left : (s t : Bool) → s && t ≡ true → s ≡ true
 and-left true t e = refl
@@ -22,5 +21,5 @@ then-true true t e p = e
 then-true false t e p = cc
 
 pub not-true : (t : Bool) → not t ≡ true → t ≡ true → ⊥
-not-true true e p = absurd (let z : _≡_ {A = ℕ} 0 1 = cc in omega arith)
-not-true false e p = absurd (let z : _≡_ {A = ℕ} 0 1 = cc in omega arith)
+not-true true e p = zero-is-one cc
+not-true false e p = zero-is-one cc

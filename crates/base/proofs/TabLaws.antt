@@ -1,13 +1,14 @@
 -- Laws of `tab`: the list of a function's first n values.
-use mathlib.Core.Path.{_≡_, refl, ap, ap₂}
+use mathlib.Core.Path.{_≡_, refl, sym, ap, ap₂, _∙_}
 use mathlib.Core.List.{List, [], _∷_, _++_}
 use mathlib.Core.Option.{none, some}
 use Prim.Native.Nat.{ℕ, zero, suc, _+_, _≤_, _<_}
 use native.Mathlib.Nat.{le-of-suc-le-suc, not-suc-le-zero}
 use native.Mathlib.Numerals.{add-one}
 use native.Mathlib.Omega.{arith}
-use lib.ListN.{length, take, getD, getElem?}
+use lib.ListN.{length, getD, getElem?}
 use Rattle.base.specs.Tab.{tab}
+use Rattle.base.proofs.ListLaws.{found-lt}
 
 module _ {A : Type 0} where
   pub tab-none : (f : ℕ → A) → tab 0 f ≡ []
@@ -54,12 +55,31 @@ module _ {A : Type 0} where
   tab-same (suc n) f g h =
       ap₂ (λ (x : A) (r : List A). x ∷ r) (h 0 (omega arith)) (tab-same n (λ i. f (suc i)) (λ i. g (suc i)) (λ i k. h (suc i) (omega arith)))
 
-  pub tab-take : (m n : ℕ) (f : ℕ → A) → m ≤ n → take m (tab n f) ≡ tab m f
-  unfolding tab
-  tab-take zero n f h = refl
-  tab-take (suc m) zero f h = absurd (not-suc-le-zero h)
-  tab-take (suc m) (suc n) f h = ap (λ (r : List A). f 0 ∷ r) (tab-take m n (λ i. f (suc i)) (le-of-suc-le-suc h))
-
   -- one more at the end, at the code's n + 1
   pub tab-one-more : (n : ℕ) (f : ℕ → A) → tab (n + 1) f ≡ tab n f ++ (f n ∷ [])
   tab-one-more n f = rw add-one (tab-more n f)
+
+  -- one more value at the end of a table, where the others stay
+  pub tab-put : (n m : ℕ) (f g : ℕ → A) (a : A) → m ≡ n + 1 → ((i : ℕ) → i < n → g i ≡ f i) → g n ≡ a → tab m g ≡ tab n f ++ (a ∷ [])
+  tab-put n m f g a e old new = ap (λ k. tab k g) e ∙ tab-one-more n g ∙ ap₂ (λ x y. x ++ (y ∷ [])) (tab-same n g f old) new
+
+  pub tab-known : (n : ℕ) (f : ℕ → A) (i : ℕ) (a : A) → getElem? (tab n f) i ≡ some a → (i < n) × (f i ≡ a)
+  tab-known n f i a h =
+      let l : i < n = omega (arith, found-lt (tab n f) i a h, tab-length n f) in
+      let e : some (f i) ≡ some a = sym (tab-at n f i l) ∙ h in
+      (l, cc)
+
+  -- a list is the table of any function that has its elements
+  pub tab-found : (l : List A) (f : ℕ → A) → ((i : ℕ) (a : A) → getElem? l i ≡ some a → f i ≡ a) → tab (length l) f ≡ l
+  unfolding tab
+  tab-found [] f h = refl
+  tab-found (x ∷ xs) f h = ap₂ (λ y r. y ∷ r) (h 0 x refl) (tab-found xs (λ i. f (suc i)) (λ i a e. h (suc i) a e))
+
+  pub tab-list : (d : A) (l : List A) → tab (length l) (λ i. getD l i d) ≡ l
+  unfolding tab
+  tab-list d [] = refl
+  tab-list d (x ∷ xs) = ap (λ (r : List A). x ∷ r) (tab-list d xs)
+
+-- an array is the table of its elements
+pub array-tab : (n : ℕ) (l : List ℕ) → length l ≡ n → tab n (λ i. getD l i 0) ≡ l
+array-tab n l e = ap (λ (k : ℕ). tab k (λ i. getD l i 0)) (sym e) ∙ tab-list 0 l

@@ -8,9 +8,7 @@ use native.Mathlib.Omega.{arith}
 use lib.Dec.{eqb, ltb, leb}
 use borrow.Author.Tests.{eqb-true, eqb-false, ltb-true, ltb-false, leb-true, leb-false}
 use Rattle.base.specs.Tells.{Tells, Each}
-
-pub true-is-false : {A : Type 0} → true ≡ false → A
-true-is-false e = absurd (let z : _≡_ {A = ℕ} 0 1 = cc in omega arith)
+use Rattle.base.proofs.AbsurdLaws.{true-is-false}
 
 module _ {P : Type 0} where
   pub tells-yes : P → Tells P true

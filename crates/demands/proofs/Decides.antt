@@ -14,8 +14,8 @@ use Rattle.graph.specs.Verdict.{Verdict, clashes, cycles, solvable}
 use Rattle.graph.specs.Goals.{Goal, clash-goal, cycle-goal}
 use Rattle.graph.specs.Book as book
 use Rattle.graph.proofs.SolutionLaws.{solution-no-clash, solution-no-cycle}
-use Rattle.graph.proofs.CheckerLaws.{passes-cites}
-use Rattle.graph.proofs.StateLaws.{proper-offered}
+use Rattle.graph.proofs.CitesLaws.{passes-cites}
+use Rattle.graph.proofs.ProperLaws.{proper-offered}
 use Rattle.proof_lines.specs.Codec.{firstLines}
 use Rattle.proof_lines.specs.Proof.{ProofIn}
 use Rattle.store.proofs.ViewLaws.{shape-proper}

@@ -1,10 +1,10 @@
 -- The closure is least, it grows with the state, and it joins known nodes.
-use mathlib.Core.List.{List, [], _∷_}
+use mathlib.Core.List.{List}
 use Prim.Native.Nat.{ℕ}
 use native.Mathlib.Omega.{arith}
-use Rattle.graph.specs.State.{Node, functor, Equation, State, IsNode, NodeAt, ChildAt, Held, EqualLabels, Proper, offered}
+use Rattle.graph.specs.State.{Node, functor, Equation, State, IsNode, NodeAt, ChildAt, Held, EqualLabels, Proper}
 use Rattle.graph.specs.Closure.{Same, equation, reflexivity, symmetry, transitivity, down, Below, child, same-below, below-same, below-below}
-use Rattle.base.proofs.ListLaws.{found-lt, found-append}
+use Rattle.base.proofs.ListLaws.{found-lt}
 
 -- ---- least
 
@@ -79,10 +79,3 @@ module _ (s d : State) (g : Grows s d) where
   below-grows (same-below p q) = same-below (same-grows p) (below-grows q)
   below-grows (below-same p q) = below-same (below-grows p) (same-grows q)
   below-grows (below-below p q) = below-below (below-grows p) (below-grows q)
-
-pub offered-grows : (s : State) (e : Equation) → Grows s (offered s e)
-offered-grows s e = record {
-  nodes-stay = λ u n h. h;
-  known-stay = λ u h. h;
-  held-stay = λ d h. (h .0, found-append (s .equations) (e ∷ []) (h .0) d (h .1));
-}

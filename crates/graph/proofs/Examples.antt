@@ -14,17 +14,18 @@ use Rattle.graph.specs.Lines.{Line, tidy, byRule, claimOf}
 use Rattle.graph.specs.Goals.{clash-goal, cycle-goal, same-goal}
 use Rattle.graph.specs.Book.{over, step}
 use Rattle.graph.specs.Examples.{equation-line, child-line, turned-line, joined-line, down-line, ExampleRun, program, e11, program-calls, program-replies, Starred, types, a-b, c-g, SectionTwo, siblings, parents, congruent, Nothing, Untidy, Broken, Refusals, Examples}
-use Rattle.base.proofs.ListLaws.{found-take}
+use Rattle.base.proofs.AbsurdLaws.{zero-is-one}
+use Rattle.base.proofs.ListLaws.{found-take, found-snoc}
 use Rattle.graph.proofs.SolutionLaws.{Fewer, solution-fewer, proper-fewer, solution-verdict}
-use Rattle.graph.proofs.CheckerLaws.{judge-sound}
-use Rattle.graph.proofs.StateLaws.{found-snoc, proper-offered}
+use Rattle.graph.proofs.SoundLaws.{judge-sound}
+use Rattle.graph.proofs.ProperLaws.{proper-offered}
 use Rattle.graph.proofs.SolutionTest.{solution-ok, proper-ok, clash-verdict, cycle-verdict, held-verdict, apart}
 
 -- ---- starred
 
 -- without equations each node is alone
 alone : (ns : List Node) {u v : ℕ} → Same (stateWith ns []) u v → u ≡ v
-alone ns (equation w) = absurd (let z : _≡_ {A = ℕ} 0 1 = cc (w .1) in omega arith)
+alone ns (equation w) = zero-is-one (cc (w .1))
 alone ns (reflexivity k) = refl
 alone ns (symmetry p) = sym (alone ns p)
 alone ns (transitivity p q) = alone ns p ∙ alone ns q

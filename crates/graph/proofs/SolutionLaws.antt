@@ -1,14 +1,11 @@
 -- What a solution rules out, what it serves, and that the verdict is one.
 use mathlib.Core.Path.{_≡_, refl, sym, _∙_}
-use mathlib.Core.Logic.{_↔_}
-use mathlib.Core.List.{[], _∷_}
 use Prim.Native.Nat.{ℕ, _<_}
 use native.Mathlib.Omega.{arith}
-use Rattle.graph.specs.State.{Node, Equation, State, IsNode, NodeAt, Held, Proper, offered}
+use Rattle.graph.specs.State.{Node, Equation, State, IsNode, NodeAt, Held, Proper}
 use Rattle.graph.specs.Closure.{Same, equation, reflexivity, symmetry, transitivity, down, Below, child, same-below, below-same, below-below, Clash, Cycle}
 use Rattle.graph.specs.Solution.{Classes, Solution}
 use Rattle.graph.specs.Verdict.{Verdict, clashes, cycles, solvable}
-use Rattle.base.proofs.ListLaws.{found-append}
 use Rattle.graph.proofs.ClosureLaws.{same-known}
 
 -- class numbers alone rule out a clash
@@ -22,10 +19,6 @@ module _ (s : State) (C : Classes s) where
 
   pub classes-no-clash : Clash s → ⊥
   classes-no-clash c = c .differ (C .label (c .u) (c .v) (c .f) (c .g) (c .cs) (c .ds) (c .at-u) (c .at-v) (same-class (c .joins)))
-
--- a table of classes, each of whose joins the closure has, is the closure
-pub classes-exact : (s : State) (C : Classes s) → ((u v : ℕ) → C .class u ≡ C .class v → Same s u v) → (u v : ℕ) → Same s u v ↔ (C .class u ≡ C .class v)
-classes-exact s C w u v = (λ p. same-class s C p, w u v)
 
 -- a solution of a proper state rules out a cycle
 module _ (s : State) (P : Proper s) (S : Solution s) where
@@ -94,7 +87,3 @@ module _ (s d : State) (w : Fewer s d) where
     left-known = λ e h. rw (← w .nodes-same) at (P .left-known e (w .held-in e h));
     right-known = λ e h. rw (← w .nodes-same) at (P .right-known e (w .held-in e h));
   }
-
-pub offered-fewer : (s : State) (e : Equation) → Fewer s (offered s e)
-offered-fewer s e =
-    record { nodes-same = refl; held-in = λ d h. (h .0, found-append (s .equations) (e ∷ []) (h .0) d (h .1)) }

@@ -15,10 +15,11 @@ use Rattle.graph.specs.Solution.{Classes, Solution}
 use Rattle.graph.specs.Verdict.{Verdict, clashes, cycles}
 use Rattle.graph.specs.Lines.{Line}
 use Rattle.graph.specs.Goals.{clash-goal, cycle-goal, Passes}
+use Rattle.base.proofs.AbsurdLaws.{zero-is-one}
 use Rattle.base.proofs.ListLaws.{lt-found}
 use Rattle.base.proofs.BoolLaws.{and-left, and-right, then-true}
 use Rattle.graph.proofs.SolutionLaws.{same-class, classes-no-clash, solution-verdict}
-use Rattle.graph.proofs.CheckerLaws.{judge-sound}
+use Rattle.graph.proofs.SoundLaws.{judge-sound}
 
 -- ---- the tests
 
@@ -85,13 +86,13 @@ each-at f (x ∷ xs) e (suc i) a q = each-at (λ j. f (suc j)) xs (and-right (f 
 
 places-length : (c : ℕ → ℕ) (cs ds : List ℕ) → samePlaces c cs ds ≡ true → length cs ≡ length ds
 places-length c [] [] e = refl
-places-length c [] (y ∷ ys) e = absurd (let z : _≡_ {A = ℕ} 0 1 = cc in omega arith)
-places-length c (x ∷ xs) [] e = absurd (let z : _≡_ {A = ℕ} 0 1 = cc in omega arith)
+places-length c [] (y ∷ ys) e = zero-is-one cc
+places-length c (x ∷ xs) [] e = zero-is-one cc
 places-length c (x ∷ xs) (y ∷ ys) e = ap suc (places-length c xs ys (and-right (eqb (c x) (c y)) (samePlaces c xs ys) e))
 
 places-at : (c : ℕ → ℕ) (cs ds : List ℕ) → samePlaces c cs ds ≡ true → (i x y : ℕ) → ChildAt cs i x → ChildAt ds i y → c x ≡ c y
-places-at c [] ds e i x y p q = absurd (let z : _≡_ {A = ℕ} 0 1 = cc in omega arith)
-places-at c (a ∷ cs) [] e i x y p q = absurd (let z : _≡_ {A = ℕ} 0 1 = cc in omega arith)
+places-at c [] ds e i x y p q = zero-is-one cc
+places-at c (a ∷ cs) [] e i x y p q = zero-is-one cc
 places-at c (a ∷ cs) (d ∷ ds) e zero x y p q =
     let k : c a ≡ c d = eqb-true (c a) (c d) (and-left (eqb (c a) (c d)) (samePlaces c cs ds) e) in cc
 places-at c (a ∷ cs) (d ∷ ds) e (suc i) x y p q = places-at c cs ds (and-right (eqb (c a) (c d)) (samePlaces c cs ds) e) i x y p q

@@ -1,16 +1,22 @@
 -- Document 01's book at work: what it replies to a call, and what the call does to its two lists.
---   Call        declare (both ways), equate with the buffer's length, withdraw, clear
---   early       the first refusal that the two lists decide, in document 01's order; refusal 1 never applies
---   Refusal     the number of a call's refusal, 0 where it isn't refused; 8 and 9 come from the verdict of held and offered
---   answer      the reply, and the lists after the call
---   Runs        the answers to a list of calls, and the state after it
+--   Call         declare (both ways), equate with the buffer's length, withdraw, clear
+--   BookReply    a node's number, held, gone, cleared, or a refusal's number
+--   Transition, transition     a reply, and the state after the call
+--   removed, allBelow, childrenOf    equations without a name's; numbers below a bound; a node's children
+--   early        the first refusal that the two lists decide, in document 01's order; refusal 1 never applies
+--   Late, Else   what the closure says of a call; where `early` refuses, that
+--   Refusal      the number of a call's refusal, 0 where it isn't refused; 8 and 9 come from the verdict of held and offered
+--   accepted     the reply to a call that isn't refused, and the lists after it
+--   answer       the reply to any call, and the lists after it
+--   Runs         the answers to a list of calls, and the state after it
 use mathlib.Core.Path.{_≡_}
-use mathlib.Core.Bool.{Bool, true, false, _&&_, cond}
+use mathlib.Core.Bool.{Bool, true, _&&_, cond}
 use mathlib.Core.List.{List, [], _∷_, _++_}
 use mathlib.Core.Option.{Option, none, some}
 use Prim.Native.Nat.{ℕ}
 use lib.ListN.{length}
 use lib.Dec.{eqb, ltb, leb}
+use Rattle.graph.specs.Limits.{nodeLimit, childLimit, equationLimit, bufferBytes}
 use Rattle.graph.specs.State.{Node, variable, functor, Equation, State, stateWith, emptyState, nameHeld, offered}
 use Rattle.graph.specs.Verdict.{Verdict}
 
@@ -49,17 +55,17 @@ abbrev pub childrenOf : Node → List ℕ
 childrenOf variable = []
 childrenOf (functor f cs) = cs
 
--- document 01's limits: 64 nodes, 4 children, 256 equations, 65,536 bytes of buffer
+-- the refusals that need no closure: of a limit (specs/Limits), of an unknown node, of a name
 abbrev pub early : State → Call → Option ℕ
 early s (declare n) =
-    cond (leb 64 (length (s .nodes))) (some 2)
-    (cond (ltb 4 (length (childrenOf n))) (some 3)
+    cond (leb nodeLimit (length (s .nodes))) (some 2)
+    (cond (ltb childLimit (length (childrenOf n))) (some 3)
     (cond (allBelow (length (s .nodes)) (childrenOf n)) none (some 4)))
 early s (equate e room) =
-    cond (ltb room 65536) (some 5)
+    cond (ltb room bufferBytes) (some 5)
     (cond (ltb (e .left) (length (s .nodes)) && ltb (e .right) (length (s .nodes)))
     (cond (nameHeld (e .name) (s .equations)) (some 6)
-    (cond (leb 256 (length (s .equations))) (some 7) none))
+    (cond (leb equationLimit (length (s .equations))) (some 7) none))
     (some 4))
 early s (withdraw n) = cond (nameHeld n (s .equations)) none (some 10)
 early s clear = none

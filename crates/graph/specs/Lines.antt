@@ -4,7 +4,7 @@
 --   ruleTable    which fields a rule uses: document 01's one fixed table, a row for each of rules 1 to 6
 --   tidy         fields that the rule doesn't use are zero
 --   claimOf      what a line claims after the claims of the lines before it; none where it breaks its rule
---   lineClaims      all claims of a list, or the number of the first line that breaks its rule
+--   lineClaims   all claims of a list, or the number of the first line that breaks its rule
 -- Rules 3, 4 and 5 (self, turned, joined) are reflexivity, symmetry and transitivity.
 use mathlib.Core.Bool.{Bool, true, false, _&&_, _||_, cond}
 use mathlib.Core.List.{List, [], _∷_, _++_}
@@ -12,7 +12,7 @@ use mathlib.Core.Option.{Option, none, some}
 use Prim.Native.Nat.{ℕ, zero, suc}
 use lib.ListN.{length, getElem?, getD}
 use lib.Dec.{eqb, ltb}
-use Rattle.graph.specs.State.{Node, variable, functor, Equation, State}
+use Rattle.graph.specs.State.{Node, variable, functor, Equation, State, sameLabel}
 use Rattle.graph.specs.Closure.{Same, Below}
 
 pub record Line : Type 0 where
@@ -59,7 +59,7 @@ functorAt ns u = try (getElem? ns u) functorOf
 
 -- the label test: `EqualLabels` as a Bool
 abbrev pub equalLabels : Functor → Functor → Bool
-equalLabels k m = eqb (k .symbol) (m .symbol) && eqb (length (k .children)) (length (m .children))
+equalLabels k m = sameLabel (k .symbol) (length (k .children)) (m .symbol) (length (m .children))
 
 -- the child at a place, counted from 1
 abbrev pub placeAt : List ℕ → ℕ → Option ℕ

@@ -5,11 +5,12 @@
 --   IsNode       a known node
 --   NodeAt, ChildAt, Held   what stands at a place of a list
 --   nameHeld     a name is held
---   EqualLabels  equal labels: one symbol, and equally many children
+--   SameLabel, sameLabel    what a label is, as a fact and as a test: a symbol together with a number of children
+--   EqualLabels  equal labels of two functor nodes
 --   Proper       each child is an earlier node, each end of an equation a known node
 --   offered      the state with one equation more, document 01's held and offered together
 use mathlib.Core.Path.{_≡_}
-use mathlib.Core.Bool.{Bool, true, false, cond}
+use mathlib.Core.Bool.{Bool, true, false, _&&_, cond}
 use mathlib.Core.List.{List, [], _∷_, _++_}
 use mathlib.Core.Option.{some}
 use Prim.Native.Nat.{ℕ, _<_}
@@ -59,9 +60,16 @@ abbrev pub nameHeld : ℕ → List Equation → Bool
 nameHeld n [] = false
 nameHeld n (e ∷ es) = cond (eqb (e .name) n) true (nameHeld n es)
 
--- a functor node's label is its symbol f together with the number of its children cs
+-- symbol f with a children, symbol g with b: one label
+abbrev pub SameLabel : (f a g b : ℕ) → Type 0
+SameLabel f a g b = (f ≡ g) × (a ≡ b)
+
+abbrev pub sameLabel : (f a g b : ℕ) → Bool
+sameLabel f a g b = eqb f g && eqb a b
+
+-- of functor nodes with symbols f, g and children cs, ds
 abbrev pub EqualLabels : ℕ → List ℕ → ℕ → List ℕ → Type 0
-EqualLabels f cs g ds = (f ≡ g) × (length cs ≡ length ds)
+EqualLabels f cs g ds = SameLabel f (length cs) g (length ds)
 
 pub record Proper (s : State) : Type 0 where
   pub earlier : (u f i v : ℕ) (cs : List ℕ) → NodeAt s u (functor f cs) → ChildAt cs i v → v < u

@@ -10,7 +10,8 @@ use borrow.Author.Tests.{eq-eqb, ne-eqb, lt-ltb, le-ltb}
 use Rattle.graph.specs.State.{State}
 use Rattle.graph.specs.Lines.{lineClaims}
 use Rattle.graph.specs.Goals.{Goal, Meaning, shows, ended, Judgement, passed, refused, broken-line, judgeEnd, judge, Passes, Cites}
-use Rattle.graph.proofs.CheckerLaws.{judge-sound, passes-cites}
+use Rattle.graph.proofs.SoundLaws.{judge-sound}
+use Rattle.graph.proofs.CitesLaws.{passes-cites}
 use Rattle.proof_lines.specs.Codec.{linesOf}
 use Rattle.proof_lines.specs.Proof.{ProofIn}
 use Rattle.proof_lines.proofs.Decoding.{part-lines}

@@ -10,7 +10,7 @@ use Rattle.base.proofs.TabLaws.{tab-none, tab-more}
 use Rattle.graph.specs.State.{State}
 use Rattle.graph.specs.Lines.{Line, Claim, claimOf, LineClaims, all, broken, onAll, more, lineClaims}
 use Rattle.graph.specs.Goals.{ends as endsIn, breaks, ended}
-use Rattle.graph.proofs.CheckerLaws.{checked-one-more, checked-stop, last-snoc}
+use Rattle.graph.proofs.AppendLaws.{checked-one-more, checked-stop, last-snoc}
 use Rattle.proof_lines.specs.declared.Fields.{Fields}
 use Rattle.proof_lines.specs.declared.Decoded.{Decoded}
 use Rattle.proof_lines.specs.declared.Decoded.the-variants.{Whole}

@@ -1,14 +1,14 @@
 -- What the solver asks of nodes and equations in lent arrays. `TermsShape` of store gives `Formed`.
 --   IsFunctor  node u is known, and a functor node
 --   Formed     at most 64 nodes of at most 4 children, each child an earlier node
---   Alike      equal labels: `EqualLabels`, read off the arrays
+--   Alike      equal labels, read off the arrays
 --   EquationEnds       the equations of a state have the ends that two arrays have
 use mathlib.Core.Path.{_≡_}
 use mathlib.Core.List.{List}
 use mathlib.Core.Option.{some}
 use Prim.Native.Nat.{ℕ, _≤_, _<_}
 use lib.ListN.{getD, getElem?}
-use Rattle.graph.specs.State.{Equation, State}
+use Rattle.graph.specs.State.{Equation, State, SameLabel}
 use Rattle.store.specs.Views.{kindAt, symbolAt, arityAt, childAt, nodesOf}
 use Rattle.store.specs.declared.Terms.{Terms}
 
@@ -26,7 +26,7 @@ pub record Formed (g : Terms) : Type 0 where
   pub earlier : (u j : ℕ) → u < g .count → j < arityAt g u → childAt g u j < u
 
 abbrev pub Alike : Terms → ℕ → ℕ → Type 0
-Alike g u v = (symbolAt g u ≡ symbolAt g v) × (arityAt g u ≡ arityAt g v)
+Alike g u v = SameLabel (symbolAt g u) (arityAt g u) (symbolAt g v) (arityAt g v)
 
 -- the state's equations have, at their first m places, the ends that the arrays have there
 pub record EquationEnds (m : ℕ) (left right : List ℕ) (s : State) : Type 0 where

@@ -11,6 +11,7 @@ use lib.Dec.{ltb}
 use lib.Seq.{drop-cons, drop-length}
 use borrow.Author.Tests.{lt-ltb, le-ltb, ltb-true}
 use Rattle.graph.specs.Book.{allBelow}
+use Rattle.base.proofs.AbsurdLaws.{true-is-false}
 
 module _ (n : ℕ) (l : List ℕ) (i : ℕ) (h : i < length l) where
   step : allBelow n (drop i l) ≡ ltb (getD l i 0) n && allBelow n (drop (i + 1) l)
@@ -32,7 +33,7 @@ below-each n (x ∷ xs) a i h = go (ltb x n) refl i a h (below-each n xs)
     go : (t : Bool) → ltb x n ≡ t → (i : ℕ) → t && allBelow n xs ≡ true → i < length (x ∷ xs) → (allBelow n xs ≡ true → (i : ℕ) → i < length xs → getD xs i 0 < n) → getD (x ∷ xs) i 0 < n
     go true e zero a h r = ltb-true x n e
     go true e (suc i) a h r = r a i (le-of-suc-le-suc h)
-    go false e i a h r = absurd (let z : _≡_ {A = Bool} false true = a in let y : _≡_ {A = ℕ} 0 1 = cc in omega arith)
+    go false e i a h r = true-is-false (sym a)
 
 -- what is below n is below more
 pub below-wider : (n m : ℕ) (l : List ℕ) → n ≤ m → allBelow n l ≡ true → allBelow m l ≡ true
@@ -41,4 +42,4 @@ below-wider n m (x ∷ xs) h a = go (ltb x n) refl a (below-wider n m xs h)
   where
     go : (t : Bool) → ltb x n ≡ t → t && allBelow n xs ≡ true → (allBelow n xs ≡ true → allBelow m xs ≡ true) → ltb x m && allBelow m xs ≡ true
     go true e a r = rw (lt-ltb x m (omega (arith, ltb-true x n e)), r a)
-    go false e a r = absurd (let z : _≡_ {A = Bool} false true = a in let y : _≡_ {A = ℕ} 0 1 = cc in omega arith)
+    go false e a r = true-is-false (sym a)

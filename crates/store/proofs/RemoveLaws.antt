@@ -10,9 +10,11 @@ use lib.Dec.{eqb, ltb}
 use lib.ListN.{length, getD, set, length-set, List·getD-eq-default}
 use lib.Seq.{getD-set-same, getD-set-other, ext-getD}
 use borrow.Author.Tests.{eq-eqb, ne-eqb, lt-ltb, le-ltb}
+use Rattle.graph.specs.Limits.{equationLimit}
 use Rattle.graph.specs.State.{Equation, nameHeld}
 use Rattle.graph.specs.Book.{removed}
 use Rattle.base.specs.Tab.{tab}
+use Rattle.base.proofs.AbsurdLaws.{true-is-false}
 use Rattle.base.proofs.TabLaws.{tab-length, tab-getD, tab-same}
 use Rattle.store.specs.Views.{equations, equationAt, equationsOf}
 use Rattle.store.specs.Shape.{EquationsShape}
@@ -180,12 +182,12 @@ module _ (e : Equations) (k : ℕ) (room : k < e .count) where
   }
     where
       -- past the last equation stood zeros, and the array's end
-      unused : (l : List ℕ) → length l ≡ 256 → ((i : ℕ) → e .count ≤ i → i < 256 → getD l i 0 ≡ 0)
-          → (i : ℕ) → e .count - 1 ≤ i → i < 256 → getD l (skip k i) 0 ≡ 0
+      unused : (l : List ℕ) → length l ≡ equationLimit → ((i : ℕ) → e .count ≤ i → i < equationLimit → getD l i 0 ≡ 0)
+          → (i : ℕ) → e .count - 1 ≤ i → i < equationLimit → getD l (skip k i) 0 ≡ 0
       unused l z u i h g =
           let q : skip k i ≡ suc i = skip-after k i (omega arith) in
           ap (λ (j : ℕ). getD l j 0) q
-          ∙ ⊎-elim (λ p. u (suc i) (omega arith) p) (λ p. List·getD-eq-default l 0 (omega arith)) (below-or-from 256 (suc i))
+          ∙ ⊎-elim (λ p. u (suc i) (omega arith) p) (λ p. List·getD-eq-default l 0 (omega arith)) (below-or-from equationLimit (suc i))
 
 module _ (e : Equations) (n k : ℕ) (at : First (e .name) (e .count) n k) where
   removes : k < e .count → Removes e n (record { found = true; equations = withoutPlace k e })
@@ -194,7 +196,7 @@ module _ (e : Equations) (n k : ℕ) (at : First (e .name) (e .count) n k) where
     found = sym (held-first e n k at h);
     held = list (e .count - 1) (omega arith);
     exact = λ j f l. ap (λ (i : ℕ). withoutPlace i e) (first-one (e .name) (e .count) n k j at f);
-    kept = λ no. absurd (let z : _≡_ {A = Bool} true false = sym (held-first e n k at h) ∙ no in let y : _≡_ {A = ℕ} 0 1 = cc in omega arith);
+    kept = λ no. true-is-false (sym (held-first e n k at h) ∙ no);
     shape = shape-after e k h;
   }
     where

@@ -1,33 +1,20 @@
 -- The arrays read as lists: how many stand there, what is found at a place, and what a find tells of the arrays.
-use mathlib.Core.Path.{_≡_, refl, sym, ap, _∙_}
+use mathlib.Core.Path.{_≡_, refl, ap, _∙_}
 use mathlib.Core.Bool.{Bool, true, false, cond}
-use mathlib.Core.List.{List, [], _∷_}
+use mathlib.Core.List.{List}
 use mathlib.Core.Option.{some}
 use Prim.Native.Nat.{ℕ, _<_}
 use native.Mathlib.Omega.{arith}
 use lib.Dec.{eqb}
-use lib.ListN.{length, getD, getElem?}
+use lib.ListN.{length, getElem?}
 use borrow.Author.Tests.{eq-eqb, ne-eqb, eqb-true}
 use Rattle.graph.specs.State.{Node, variable, functor, Equation, IsNode, NodeAt, ChildAt, Held, Proper}
-use Rattle.base.specs.Tab.{tab}
-use Rattle.base.proofs.ListLaws.{found-lt}
-use Rattle.base.proofs.TabLaws.{tab-length, tab-at}
+use Rattle.base.proofs.AbsurdLaws.{zero-is-one}
+use Rattle.base.proofs.TabLaws.{tab-length, tab-at, tab-known}
 use Rattle.store.specs.Views.{kindAt, symbolAt, arityAt, childAt, childrenAt, nodeAt, nodesOf, equationAt, equationsOf, stateFrom}
 use Rattle.store.specs.Shape.{Shape}
 use Rattle.store.specs.declared.Terms.{Terms}
 use Rattle.store.specs.declared.Equations.{Equations}
-
-pub tab-known : {A : Type 0} (n : ℕ) (f : ℕ → A) (i : ℕ) (a : A) → getElem? (tab n f) i ≡ some a → (i < n) × (f i ≡ a)
-tab-known n f i a h =
-    let l : i < n = omega (arith, found-lt (tab n f) i a h, tab-length n f) in
-    let e : some (f i) ≡ some a = sym (tab-at n f i l) ∙ h in
-    (l, cc)
-
--- a list is the table of its elements
-pub tab-list : {A : Type 0} (d : A) (l : List A) → tab (length l) (λ i. getD l i d) ≡ l
-unfolding tab
-tab-list d [] = refl
-tab-list d (x ∷ xs) = ap (λ (r : List _). x ∷ r) (tab-list d xs)
 
 -- ---- nodes
 
@@ -56,18 +43,11 @@ module _ (t : Terms) where
       go : (b : Bool) → eqb (kindAt t u) 1 ≡ b → u < t .count → cond b (functor (symbolAt t u) (childrenAt t u)) variable ≡ functor f cs
           → (u < t .count) × (kindAt t u ≡ 1) × (symbolAt t u ≡ f) × (childrenAt t u ≡ cs)
       go true e l q = (l, eqb-true _ _ e, cc, cc)
-      go false e l q = absurd (let z : _≡_ {A = ℕ} 0 1 = cc in omega arith)
+      go false e l q = zero-is-one cc
 
   -- any kind but 1 is a variable
   pub variable-found : (u : ℕ) → u < t .count → (kindAt t u ≡ 1 → ⊥) → getElem? (nodesOf t) u ≡ some variable
   variable-found u h k = node-found u h ∙ rw (ne-eqb _ _ k)
-
-  pub variable-known : (u : ℕ) → getElem? (nodesOf t) u ≡ some variable → kindAt t u ≡ 1 → ⊥
-  variable-known u h k =
-      let l : u < t .count = node-known u variable h .0 in
-      let e : getElem? (nodesOf t) u ≡ some (functor (symbolAt t u) (childrenAt t u)) = functor-found u l k in
-      let z : _≡_ {A = ℕ} 0 1 = cc in
-      omega arith
 
   pub children-length : (u : ℕ) → length (childrenAt t u) ≡ arityAt t u
   children-length u = tab-length (arityAt t u) (childAt t u)
@@ -101,9 +81,6 @@ module _ (t : Terms) (e : Equations) where
 
   pub node-counted : (u : ℕ) → IsNode (stateFrom t e) u → u < t .count
   node-counted u h = rw nodes-length at h
-
-  pub held-found : (k : ℕ) → k < e .count → Held (stateFrom t e) (equationAt e k)
-  held-found k h = (k, equation-found e k h)
 
   pub held-known : (d : Equation) → Held (stateFrom t e) d → (k : ℕ) × (k < e .count) × (equationAt e k ≡ d)
   held-known d h =

@@ -4,7 +4,6 @@
 --   PutsEquation  equate: one equation more, at the end
 --   Removes       withdraw: the equation of a name taken out, the rest closing up in order, the freed place zero
 -- The exact struct stands beside the lists, so that a value that isn't well-shaped has just one result too.
--- are definitions.
 use mathlib.Core.Path.{_≡_}
 use mathlib.Core.Bool.{true, false, cond}
 use mathlib.Core.List.{List, [], _∷_, _++_}
@@ -12,6 +11,7 @@ use Prim.Native.Nat.{ℕ, suc, _+_, _-_, _*_, _≤_, _<_}
 use lib.ListN.{length, getD, set}
 use lib.Seq.{paste}
 use lib.Dec.{ltb}
+use Rattle.graph.specs.Limits.{nodeLimit, childLimit}
 use Rattle.graph.specs.State.{Node, equationOf, nameHeld}
 use Rattle.graph.specs.Book.{removed, allBelow}
 use Rattle.base.specs.Tab.{tab}
@@ -38,8 +38,8 @@ withFunctor t f cs =
 
 -- there is room for a node with these children, each a node
 pub record Room (t : Terms) (cs : List ℕ) : Type 0 where
-  pub room : t .count < 64
-  pub few : length cs ≤ 4
+  pub room : t .count < nodeLimit
+  pub few : length cs ≤ childLimit
   pub known : allBelow (t .count) cs ≡ true
 
 -- r is t with the node n; as a struct it is `whole`

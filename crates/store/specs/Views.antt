@@ -11,6 +11,7 @@ use mathlib.Core.Option.{Option, none, some}
 use Prim.Native.Nat.{ℕ, _+_, _*_, _/_, _%_}
 use lib.ListN.{length, getD, getElem?, replicate}
 use lib.Dec.{eqb}
+use Rattle.graph.specs.Limits.{nodeLimit, childLimit, equationLimit}
 use Rattle.graph.specs.State.{Node, variable, functor, Equation, equationOf, State, stateWith}
 use Rattle.base.specs.Tab.{tab}
 use Rattle.store.specs.declared.Terms.{Terms}
@@ -23,10 +24,10 @@ abbrev pub equations : ℕ → List ℕ → List ℕ → List ℕ → Equations
 equations m name left right = record { count = m; name = name; left = left; right = right }
 
 abbrev pub freshTerms : Terms
-freshTerms = terms 0 (replicate 64 0) (replicate 64 0) (replicate 64 0) (replicate 256 0)
+freshTerms = terms 0 (replicate nodeLimit 0) (replicate nodeLimit 0) (replicate nodeLimit 0) (replicate (childLimit * nodeLimit) 0)
 
 abbrev pub freshEquations : Equations
-freshEquations = equations 0 (replicate 256 0) (replicate 256 0) (replicate 256 0)
+freshEquations = equations 0 (replicate equationLimit 0) (replicate equationLimit 0) (replicate equationLimit 0)
 
 -- ---- arrays to lists
 
@@ -90,9 +91,9 @@ childOf j (functor f cs) = getD cs j 0
 
 unfoldable pub packTerms : List Node → Terms
 packTerms ns =
-    terms (length ns) (column 64 kindOf ns) (column 64 symbolOf ns) (column 64 arityOf ns)
-    (tab 256 (λ i. orZero (childOf (i % 4)) (getElem? ns (i / 4))))
+    terms (length ns) (column nodeLimit kindOf ns) (column nodeLimit symbolOf ns) (column nodeLimit arityOf ns)
+    (tab (childLimit * nodeLimit) (λ i. orZero (childOf (i % 4)) (getElem? ns (i / 4))))
 
 unfoldable pub packEquations : List Equation → Equations
 packEquations es =
-    equations (length es) (column 256 (λ e. e .name) es) (column 256 (λ e. e .left) es) (column 256 (λ e. e .right) es)
+    equations (length es) (column equationLimit (λ e. e .name) es) (column equationLimit (λ e. e .left) es) (column equationLimit (λ e. e .right) es)

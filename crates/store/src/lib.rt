@@ -4,6 +4,7 @@ ghost use Prim.Native.Nat.{_+_, _≤_, _<_};
 ghost use mathlib.Core.Bool.{true};
 ghost use lib.ListN.{length, set};
 ghost use lib.Seq.{paste};
+ghost use Rattle.graph.specs.Limits.{nodeLimit, equationLimit};
 ghost use Rattle.graph.specs.State.{Node};
 ghost use Rattle.graph.specs.Book.{allBelow};
 ghost use Rattle.store.specs.Views.{freshTerms, freshEquations};
@@ -51,7 +52,7 @@ pub fn all_below(children: &[u16], n: u16) -> bool
 
 // The first place of x among the first n names, or n.
 pub fn find(name: &[u16; 256], n: usize, x: u16) -> usize
-    requires { ⌜ n ≤ 256 ⌝ }
+    requires { ⌜ n ≤ equationLimit ⌝ }
     ensures { λ r. ⌜ First (now (name .entry)) n x r ⌝ }
 {
     let s: &[u16] = name;
@@ -141,7 +142,7 @@ impl Terms {
     }
 
     pub fn put_variable(mut self) -> Terms
-        requires { ⌜ self .count < 64 ⌝ }
+        requires { ⌜ self .count < nodeLimit ⌝ }
         ensures { λ r. ⌜ PutsNode self Node.variable (withVariable self) r ⌝ }
     {
         let n = self.count;
@@ -177,7 +178,7 @@ impl Equations {
     }
 
     pub fn put(mut self, name: u16, left: u8, right: u8) -> Equations
-        requires { ⌜ self .count < 256 ⌝ }
+        requires { ⌜ self .count < equationLimit ⌝ }
         ensures { λ r. ⌜ PutsEquation self name left right r ⌝ }
     {
         let n = self.count;
@@ -189,7 +190,7 @@ impl Equations {
     }
 
     pub fn remove(mut self, name: u16) -> Removed
-        requires { ⌜ self .count ≤ 256 ⌝ }
+        requires { ⌜ self .count ≤ equationLimit ⌝ }
         ensures { λ r. ⌜ Removes self name r ⌝ }
     {
         let n = self.count;

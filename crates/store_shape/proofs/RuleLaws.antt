@@ -8,6 +8,7 @@ use native.Mathlib.Nat.{eq-or-lt-of-le}
 use native.Mathlib.Omega.{arith}
 use lib.Dec.{eqb, ltb, leb}
 use lib.ListN.{getD}
+use Rattle.graph.specs.Limits.{childLimit}
 use Rattle.store_shape.specs.Rules.{ZeroFrom, Head, ChildRule, NodeRule}
 use Rattle.base.specs.Tells.{Tells, Each}
 use Rattle.base.proofs.TellLaws.{tells-yes, tells-same, tells-both, tells-eq, tells-lt, tells-le, tells-more}
@@ -32,12 +33,12 @@ module _ (k f a : ℕ) where
       (λ h. (h .symbol-zero z, h .arity-zero z))
       (tells-both (tells-eq f 0) (tells-eq a 0))
 
-  pub head-functor : (k ≡ 0 → ⊥) → Tells (Head k f a) (eqb k 1 && leb a 4)
+  pub head-functor : (k ≡ 0 → ⊥) → Tells (Head k f a) (eqb k 1 && leb a childLimit)
   head-functor n =
       tells-same
       (λ p. record { kind = omega (arith, p .0); arity = p .1; symbol-zero = λ e. absurd (n e); arity-zero = λ e. absurd (n e) })
       (λ h. (one (h .kind), h .arity))
-      (tells-both (tells-eq k 1) (tells-le a 4))
+      (tells-both (tells-eq k 1) (tells-le a childLimit))
     where
       one : k ≤ 1 → k ≡ 1
       one h = ⊎-elim (λ e. e) (λ l. absurd (n (omega arith))) (eq-or-lt-of-le h)
@@ -56,7 +57,7 @@ module _ (a u c j : ℕ) where
 
 pub node-rule : (kind symbol arity child : List ℕ) (u : ℕ) {a b : Bool}
     → Tells (Head (getD kind u 0) (getD symbol u 0) (getD arity u 0)) a
-    → Tells (Each (λ j. ChildRule (getD arity u 0) u (getD child (4 * u + j) 0) j) 4) b
+    → Tells (Each (λ j. ChildRule (getD arity u 0) u (getD child (4 * u + j) 0) j) childLimit) b
     → Tells (NodeRule kind symbol arity child u) (a && b)
 node-rule kind symbol arity child u t v =
     tells-same (λ p. record { head = p .0; places = p .1 }) (λ r. (r .head, r .places)) (tells-both t v)

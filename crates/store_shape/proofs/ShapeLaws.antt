@@ -7,6 +7,7 @@ use Prim.Native.Nat.{ℕ, _+_, _*_, _/_, _%_, _≤_, _<_}
 use native.Mathlib.Nat.{mod-lt, div-add-mod}
 use native.Mathlib.Omega.{arith}
 use lib.ListN.{length, getD}
+use Rattle.graph.specs.Limits.{nodeLimit, childLimit, equationLimit}
 use Rattle.store.specs.Views.{terms, equations}
 use Rattle.store.specs.Shape.{TermsShape, EquationsShape, Shape}
 use Rattle.base.proofs.CaseLaws.{below-or-from}
@@ -16,7 +17,7 @@ use Rattle.base.proofs.TellLaws.{tells-not, tells-same, tells-both}
 
 -- ---- nodes
 
-module _ (n : ℕ) (kind symbol arity child : List ℕ) (Z : Sizes kind symbol arity child) (few : n ≤ 64) where
+module _ (n : ℕ) (kind symbol arity child : List ℕ) (Z : Sizes kind symbol arity child) (few : n ≤ nodeLimit) where
   -- each node in use keeps its rules, and each unused place is zero
   pub record Ruled : Type 0 where
     pub used : Each (NodeRule kind symbol arity child) n
@@ -41,16 +42,16 @@ module _ (n : ℕ) (kind symbol arity child : List ℕ) (Z : Sizes kind symbol a
     unused-nodes = λ u l h. kind-zero u h l;
   }
     where
-      kind-zero : (u : ℕ) → u < 64 → n ≤ u → getD kind u 0 ≡ 0
+      kind-zero : (u : ℕ) → u < nodeLimit → n ≤ u → getD kind u 0 ≡ 0
       kind-zero u h l = R .kinds u (omega (arith, Z .kinds)) l
 
-      arity-zero : (u : ℕ) → u < 64 → n ≤ u → getD arity u 0 ≡ 0
+      arity-zero : (u : ℕ) → u < nodeLimit → n ≤ u → getD arity u 0 ≡ 0
       arity-zero u h l = R .arities u (omega (arith, Z .arities)) l
 
   shape-ruled : TermsShape (terms n kind symbol arity child) → Ruled
   shape-ruled S = record {
     used = λ u h.
-        let l : u < 64 = omega (arith, few) in
+        let l : u < nodeLimit = omega (arith, few) in
         record {
           head = record {
             kind = S .kinds u l;
@@ -66,14 +67,14 @@ module _ (n : ℕ) (kind symbol arity child : List ℕ) (Z : Sizes kind symbol a
     children = λ i h l. place i (omega (arith, Z .children)) l;
   }
     where
-      empty : (u : ℕ) → u < 64 → n ≤ u → (getD symbol u 0 ≡ 0) × (getD arity u 0 ≡ 0)
+      empty : (u : ℕ) → u < nodeLimit → n ≤ u → (getD symbol u 0 ≡ 0) × (getD arity u 0 ≡ 0)
       empty u h l = S .variables u h (S .unused-nodes u l h)
 
-      place : (i : ℕ) → i < 256 → 4 * n ≤ i → getD child i 0 ≡ 0
+      place : (i : ℕ) → i < childLimit * nodeLimit → 4 * n ≤ i → getD child i 0 ≡ 0
       place i h l =
           let e : 4 * (i / 4) + i % 4 ≡ i = div-add-mod i 4 in
           let m : i % 4 < 4 = mod-lt i (omega arith) in
-          let u : i / 4 < 64 = omega arith in
+          let u : i / 4 < nodeLimit = omega arith in
           ap (λ (x : ℕ). getD child x 0) (sym e)
           ∙ S .unused-children (i / 4) (i % 4) u (omega (arith, empty (i / 4) u (omega arith) .1)) m
 
@@ -86,7 +87,7 @@ module _ (n : ℕ) (kind symbol arity child : List ℕ) (Z : Sizes kind symbol a
       (λ S. let R : Ruled = shape-ruled S in (R .used, (((R .kinds, R .symbols), R .arities), R .children)))
       (tells-both tu (tells-both (tells-both (tells-both tk tf) ta) tc))
 
-pub terms-many : (n : ℕ) (kind symbol arity child : List ℕ) → 64 < n → Tells (TermsShape (terms n kind symbol arity child)) false
+pub terms-many : (n : ℕ) (kind symbol arity child : List ℕ) → nodeLimit < n → Tells (TermsShape (terms n kind symbol arity child)) false
 terms-many n kind symbol arity child h = tells-not (λ S. omega (arith, S .few))
 
 -- ---- equations
@@ -107,7 +108,7 @@ module _ (n m : ℕ) (name left right : List ℕ) where
       (λ E. ((E .lefts, E .rights), ((E .unused-names, E .unused-lefts), E .unused-rights)))
       (tells-both (tells-both ta tb) (tells-both (tells-both tc td) te))
 
-  pub tells-equations : {r : Bool} → m ≤ 256 → EndSizes name left right → Tells (EndRules n m name left right × Distinct name m) r
+  pub tells-equations : {r : Bool} → m ≤ equationLimit → EndSizes name left right → Tells (EndRules n m name left right × Distinct name m) r
       → Tells (EquationsShape n (equations m name left right)) r
   tells-equations few Z t =
       tells-same
@@ -135,7 +136,7 @@ module _ (n m : ℕ) (name left right : List ℕ) where
       ))
       t
 
-pub equations-many : (n m : ℕ) (name left right : List ℕ) → 256 < m → Tells (EquationsShape n (equations m name left right)) false
+pub equations-many : (n m : ℕ) (name left right : List ℕ) → equationLimit < m → Tells (EquationsShape n (equations m name left right)) false
 equations-many n m name left right h = tells-not (λ S. omega (arith, S .few))
 
 -- ---- both

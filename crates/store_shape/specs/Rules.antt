@@ -6,6 +6,7 @@ use mathlib.Core.Path.{_≡_}
 use mathlib.Core.List.{List}
 use Prim.Native.Nat.{ℕ, _+_, _*_, _≤_, _<_}
 use lib.ListN.{length, getD}
+use Rattle.graph.specs.Limits.{nodeLimit, childLimit, equationLimit}
 use Rattle.base.specs.Tells.{Each}
 
 abbrev pub EachBelow : List ℕ → ℕ → ℕ → Type 0
@@ -20,7 +21,7 @@ Distinct l n = (i j : ℕ) → i < j → j < n → getD l i 0 ≡ getD l j 0 →
 -- a node of kind k with symbol f and a children
 pub record Head (k f a : ℕ) : Type 0 where
   pub kind : k ≤ 1
-  pub arity : a ≤ 4
+  pub arity : a ≤ childLimit
   pub symbol-zero : k ≡ 0 → f ≡ 0
   pub arity-zero : k ≡ 0 → a ≡ 0
 
@@ -32,7 +33,7 @@ pub record ChildRule (a u c j : ℕ) : Type 0 where
 -- node u of the four arrays
 pub record NodeRule (kind symbol arity child : List ℕ) (u : ℕ) : Type 0 where
   pub head : Head (getD kind u 0) (getD symbol u 0) (getD arity u 0)
-  pub places : Each (λ j. ChildRule (getD arity u 0) u (getD child (4 * u + j) 0) j) 4
+  pub places : Each (λ j. ChildRule (getD arity u 0) u (getD child (4 * u + j) 0) j) childLimit
 
 -- the rules of m equations beside n nodes, but for their names: the ends of each are known, unused places are zero
 pub record EndRules (n m : ℕ) (name left right : List ℕ) : Type 0 where
@@ -44,13 +45,13 @@ pub record EndRules (n m : ℕ) (name left right : List ℕ) : Type 0 where
 
 -- lengths of the arrays of nodes
 pub record Sizes (kind symbol arity child : List ℕ) : Type 0 where
-  pub kinds : length kind ≡ 64
-  pub symbols : length symbol ≡ 64
-  pub arities : length arity ≡ 64
-  pub children : length child ≡ 256
+  pub kinds : length kind ≡ nodeLimit
+  pub symbols : length symbol ≡ nodeLimit
+  pub arities : length arity ≡ nodeLimit
+  pub children : length child ≡ childLimit * nodeLimit
 
 -- lengths of the arrays of equations
 pub record EndSizes (name left right : List ℕ) : Type 0 where
-  pub names : length name ≡ 256
-  pub lefts : length left ≡ 256
-  pub rights : length right ≡ 256
+  pub names : length name ≡ equationLimit
+  pub lefts : length left ≡ equationLimit
+  pub rights : length right ≡ equationLimit

@@ -3,6 +3,7 @@ ghost use mathlib.Core.Path.{_≡_};
 ghost use mathlib.Core.Bool.{true, false};
 ghost use Prim.Native.Nat.{_+_, _*_, _≤_, _<_};
 ghost use lib.ListN.{length, getD};
+ghost use Rattle.graph.specs.Limits.{nodeLimit, childLimit, equationLimit};
 ghost use Rattle.store.specs.Views.{terms, equations};
 ghost use Rattle.store.specs.Shape.{TermsShape, EquationsShape, Shape};
 ghost use Rattle.store_shape.specs.Rules.{EachBelow, ZeroFrom, Distinct, Head, ChildRule, NodeRule, EndRules, Sizes, EndSizes};
@@ -60,7 +61,7 @@ fn head_ok(kind: u8, symbol: u16, arity: u8) -> bool
     if kind == 0 {
         (symbol == 0) & (arity == 0)
     } else {
-        (kind == 1) & (arity <= 4)
+        (kind == 1) & (arity as usize <= graph::CHILDREN)
     }
 }
 
@@ -71,14 +72,14 @@ fn place_ok(arity: u8, u: u8, c: u8, j: u8) -> bool
 }
 
 fn places_ok(child: &[u8], arity: u8, u: u8) -> bool
-    requires { ⌜ (length (now child) ≡ 256) × (u < 64) ⌝ }
-    ensures { λ r. ⌜ Tells (Each (λ j. ChildRule arity u (getD (now (child .entry)) (4 * u + j) 0) j) 4) r ⌝ }
+    requires { ⌜ (length (now child) ≡ childLimit * nodeLimit) × (u < nodeLimit) ⌝ }
+    ensures { λ r. ⌜ Tells (Each (λ j. ChildRule arity u (getD (now (child .entry)) (4 * u + j) 0) j) childLimit) r ⌝ }
 {
     let at = 4 * (u as usize);
     let mut ok = true;
-    let mut j: u8 = 0;
-    while j < 4 {
-        ok = ok & place_ok(arity, u, child[at + (j as usize)], j);
+    let mut j = 0;
+    while j < graph::CHILDREN {
+        ok = ok & place_ok(arity, u, child[at + j], j as u8);
         j += 1;
     }
     ok
@@ -91,7 +92,7 @@ fn node_ok<'a>(
     child: &'a [u8],
     u: usize,
 ) -> bool
-    requires { ⌜ Sizes (now kind) (now symbol) (now arity) (now child) × (u < 64) ⌝ }
+    requires { ⌜ Sizes (now kind) (now symbol) (now arity) (now child) × (u < nodeLimit) ⌝ }
     ensures { λ r. ⌜ Tells (NodeRule (now (kind .entry)) (now (symbol .entry)) (now (arity .entry)) (now (child .entry)) u) r ⌝ }
 {
     head_ok(kind[u], symbol[u], arity[u]) & places_ok(child, arity[u], u as u8)
@@ -104,7 +105,7 @@ fn nodes_ok<'a>(
     child: &'a [u8],
     n: usize,
 ) -> bool
-    requires { ⌜ Sizes (now kind) (now symbol) (now arity) (now child) × (n ≤ 64) ⌝ }
+    requires { ⌜ Sizes (now kind) (now symbol) (now arity) (now child) × (n ≤ nodeLimit) ⌝ }
     ensures { λ r. ⌜ Tells (Each (NodeRule (now (kind .entry)) (now (symbol .entry)) (now (arity .entry)) (now (child .entry))) n) r ⌝ }
 {
     let mut ok = true;
@@ -130,7 +131,7 @@ pub fn terms_shaped<'a>(
     let f: &[u16] = symbol;
     let a: &[u8] = arity;
     let c: &[u8] = child;
-    if n > 64 {
+    if n > graph::NODES {
         return false;
     }
     let used = nodes_ok(k, f, a, c, n);
@@ -177,7 +178,7 @@ fn names_differ(s: &[u16], n: usize) -> bool
 
 // Whether the ends of m equations are below n, and all unused places zero.
 fn ends_ok<'a>(n: u8, m: usize, name: &'a [u16], left: &'a [u8], right: &'a [u8]) -> bool
-    requires { ⌜ EndSizes (now name) (now left) (now right) × (m ≤ 256) ⌝ }
+    requires { ⌜ EndSizes (now name) (now left) (now right) × (m ≤ equationLimit) ⌝ }
     ensures { λ r. ⌜ Tells (EndRules n m (now (name .entry)) (now (left .entry)) (now (right .entry))) r ⌝ }
 {
     let known = first_below(left, m, n) & first_below(right, m, n);
@@ -193,13 +194,13 @@ pub fn equations_shaped<'a>(
     left: &'a [u8; 256],
     right: &'a [u8; 256],
 ) -> bool
-    requires { ⌜ n ≤ 64 ⌝ }
+    requires { ⌜ n ≤ nodeLimit ⌝ }
     ensures { λ r. ⌜ Tells (EquationsShape n (equations m (now (name .entry)) (now (left .entry)) (now (right .entry)))) r ⌝ }
 {
     let a: &[u16] = name;
     let b: &[u8] = left;
     let c: &[u8] = right;
-    if m > 256 {
+    if m > graph::EQUATIONS {
         return false;
     }
     if ends_ok(n as u8, m, a, b, c) {

@@ -13,7 +13,8 @@ use Rattle.graph.specs.Solution.{Solution}
 use Rattle.graph.specs.Verdict.{Verdict}
 use Rattle.graph.specs.Goals.{clash-goal, cycle-goal}
 use Rattle.graph.specs.Book as book
-use Rattle.graph.proofs.StateLaws.{declare-accepted, solution-declared, solution-removed}
+use Rattle.graph.proofs.AcceptLaws.{declare-accepted}
+use Rattle.graph.proofs.SolutionKeptLaws.{solution-declared, solution-removed}
 use Rattle.proof_lines.specs.Proof.{ProofIn}
 use Rattle.store.specs.Views.{nodesOf, equationsOf}
 use Rattle.store.specs.Shape.{TermsShape, EquationsShape, Shape}

@@ -11,7 +11,7 @@ use Rattle.graph.specs.Solution.{Solution}
 use Rattle.base.specs.Tab.{tab}
 use Rattle.base.proofs.ListLaws.{found-lt}
 use Rattle.base.proofs.TabLaws.{tab-getD}
-use Rattle.graph.proofs.StateLaws.{solution-empty}
+use Rattle.graph.proofs.SolutionKeptLaws.{solution-empty}
 use Rattle.store.specs.Views.{terms, equations, nodesOf, equationsOf, orZero, column, arityOf, packTerms, packEquations}
 use Rattle.store.specs.Shape.{TermsShape, EquationsShape, Shape}
 use Rattle.store.proofs.PackLaws.{pack-terms, pack-equations, nodes-packed, equations-packed}

@@ -9,7 +9,7 @@ use borrow.Author.Tests.{eq-eqb, lt-ltb}
 use Rattle.graph.specs.State.{State, IsNode}
 use Rattle.graph.specs.Lines.{Line, Claim, same, below, byEquation, byChild, downOf, tidy, byRule, claimOf}
 use Rattle.graph.specs.Goals.{ends, lastOf}
-use Rattle.graph.proofs.CheckerLaws.{checked-claim}
+use Rattle.graph.proofs.AppendLaws.{checked-claim}
 use Rattle.base.proofs.ListLaws.{found-append, found-last}
 use Rattle.base.proofs.TabLaws.{tab-none, tab-one-more, tab-same}
 use Rattle.proof_lines.specs.Codec.{lineAt, firstLines, line, Put}

@@ -7,7 +7,7 @@ use borrow.Author.Tests.{eq-eqb}
 use Rattle.graph.specs.State.{functor, State, NodeAt, EqualLabels}
 use Rattle.graph.specs.Lines.{Claim, same, below, Functor, equalLabels}
 use Rattle.graph.specs.Goals.{Goal, clash-goal, cycle-goal, same-goal, below-goal, shows}
-use Rattle.graph.proofs.CheckerLaws.{labels-equal}
+use Rattle.graph.proofs.LookupLaws.{labels-equal}
 use Rattle.proof_lines.specs.Proof.{Kept, Concludes, ProofIn}
 
 pub proof : (s : State) {n : ℕ} {before after : List ℕ} {c : Claim} → 1 ≤ n → n ≤ 8192 → Kept n before after → Concludes s c n after

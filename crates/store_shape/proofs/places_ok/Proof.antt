@@ -1,6 +1,7 @@
 use mathlib.Core.Path.{_≡_}
 use Prim.Native.Nat.{_+_, _-_, _*_, _≤_}
 use lib.ListN.{getD}
+use Rattle.graph.specs.Limits.{childLimit}
 use Rattle.store_shape.specs.Rules.{ChildRule}
 use Rattle.base.specs.Tells.{Tells, Each}
 use Rattle.base.proofs.TellLaws.{tells-none, tells-more}
@@ -10,10 +11,10 @@ use Rattle.store_shape.proofs.places_ok.Statement.{statement}
 use Rattle.store_shape.proofs.places_ok.Tie as tie
 
 abbrev Inv-loop : tie.InvT-loop
-Inv-loop child arity u at ok₀ j₀ ok j = (j ≤ 4) × Tells (Each (λ i. ChildRule arity u (getD child (4 * u + i) 0) i) j) ok
+Inv-loop child arity u at ok₀ j₀ ok j = (j ≤ childLimit) × Tells (Each (λ i. ChildRule arity u (getD child (4 * u + i) 0) i) j) ok
 
 abbrev μ-loop : tie.MeasureT-loop
-μ-loop child arity u at ok₀ j₀ ok j = 4 - j
+μ-loop child arity u at ok₀ j₀ ok j = childLimit - j
 
 loop-holds : tie.Need-loop-holds Inv-loop μ-loop
 loop-holds c =
@@ -29,7 +30,7 @@ loop-again c =
 returns : tie.Need-returns Inv-loop μ-loop
 returns c =
     let b = c .before in
-    let e : b .loop .j ≡ 4 = omega arith in
+    let e : b .loop .j ≡ childLimit = omega arith in
     rw e at (b .loop .inv .1)
 
 pub places-ok-spec : {M : Type 1} → statement M

@@ -1,4 +1,4 @@
-use Rattle.store.proofs.PutLaws.{Full, puts-equation}
+use Rattle.store.proofs.PutEquationLaws.{Full, puts-equation}
 use native.Mathlib.Omega.{arith}
 use borrow.Author.Needs.{needs}
 use Rattle.store.proofs.Equations.put.Statement.{statement}

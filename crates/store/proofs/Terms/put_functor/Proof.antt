@@ -1,5 +1,5 @@
 use Rattle.store.proofs.BelowLaws.{below-wider}
-use Rattle.store.proofs.PutLaws.{puts-functor}
+use Rattle.store.proofs.PutNodeLaws.{puts-functor}
 use native.Mathlib.Omega.{arith}
 use borrow.Author.Needs.{needs}
 use Rattle.store.proofs.Terms.put_functor.Statement.{statement}

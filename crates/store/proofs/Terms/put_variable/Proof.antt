@@ -1,4 +1,4 @@
-use Rattle.store.proofs.PutLaws.{puts-variable}
+use Rattle.store.proofs.PutNodeLaws.{puts-variable}
 use native.Mathlib.Omega.{arith}
 use borrow.Author.Needs.{needs}
 use Rattle.store.proofs.Terms.put_variable.Statement.{statement}

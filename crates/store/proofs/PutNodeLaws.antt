@@ -1,38 +1,31 @@
--- One node, one equation more at the end: the lists get longer by it, and the shape stays.
-use mathlib.Core.Path.{_≡_, refl, sym, ap, ap₂, _∙_}
-use mathlib.Core.Bool.{Bool, true, false}
+-- One node more at the end: the list of nodes gets longer by it, and the shape stays.
+use mathlib.Core.Path.{_≡_, refl, sym, ap, _∙_}
 use mathlib.Core.Logic.{⊎-elim}
 use mathlib.Core.List.{List, [], _∷_, _++_}
 use Prim.Native.Nat.{ℕ, _+_, _*_, _-_, _≤_, _<_}
-use native.Mathlib.Nat.{le-of-suc-le-suc, eq-or-lt-of-le}
+use native.Mathlib.Nat.{eq-or-lt-of-le}
 use native.Mathlib.Omega.{arith}
 use lib.ListN.{length, take, getD, set, length-set, List·getD-append}
 use lib.Seq.{getD-set-same, getD-set-other, set-getD, paste, length-paste, take-paste, drop-paste, getD-take, getD-drop, getD-append-add, length-take-le}
-use Rattle.graph.specs.State.{variable, functor, equationOf, nameHeld}
+use Rattle.graph.specs.Limits.{nodeLimit}
+use Rattle.graph.specs.State.{variable, functor}
 use Rattle.base.specs.Tab.{tab}
-use Rattle.base.proofs.TabLaws.{tab-same, tab-one-more}
-use Rattle.store.specs.Views.{terms, equations, kindAt, symbolAt, arityAt, childAt, childrenAt, nodeAt, nodesOf, equationAt, equationsOf}
-use Rattle.store.specs.Shape.{TermsShape, EquationsShape}
-use Rattle.store.specs.Operations.{withVariable, withFunctor, withEquation, Room, PutsNode, PutsEquation}
+use Rattle.base.proofs.TabLaws.{tab-same, tab-put, tab-list}
+use Rattle.store.specs.Views.{terms, kindAt, symbolAt, arityAt, childAt, childrenAt, nodeAt, nodesOf}
+use Rattle.store.specs.Shape.{TermsShape}
+use Rattle.store.specs.Operations.{withVariable, withFunctor, Room, PutsNode}
 use Rattle.store.specs.declared.Terms.{Terms}
-use Rattle.store.specs.declared.Equations.{Equations}
 use Rattle.base.proofs.CaseLaws.{below-or-from, same-or-other}
-use Rattle.store.proofs.ViewLaws.{tab-list}
 use Rattle.store.proofs.BelowLaws.{below-each}
-use Rattle.store.proofs.RemoveLaws.{held-at}
-
--- one more value at the end of a table, where the others stay
-tab-put : {A : Type 0} (n m : ℕ) (f g : ℕ → A) (a : A) → m ≡ n + 1 → ((i : ℕ) → i < n → g i ≡ f i) → g n ≡ a → tab m g ≡ tab n f ++ (a ∷ [])
-tab-put n m f g a e old new = ap (λ k. tab k g) e ∙ tab-one-more n g ∙ ap₂ (λ x y. x ++ (y ∷ [])) (tab-same n g f old) new
 
 -- ---- a variable
 
 module _ (t : Terms) (room : t .count < length (t .kind)) where
   -- the place was an unused one, so its kind was 0 before
-  same-kind : TermsShape t → t .count < 64 → set (t .kind) (t .count) 0 ≡ t .kind
+  same-kind : TermsShape t → t .count < nodeLimit → set (t .kind) (t .count) 0 ≡ t .kind
   same-kind s h = ap (set (t .kind) (t .count)) (sym (s .unused-nodes (t .count) (omega arith) h)) ∙ set-getD (t .kind) (t .count) 0
 
-  variable-shape : t .count < 64 → TermsShape t → TermsShape (withVariable t)
+  variable-shape : t .count < nodeLimit → TermsShape t → TermsShape (withVariable t)
   variable-shape h s =
       let k : set (t .kind) (t .count) 0 ≡ t .kind = same-kind s h in
       record {
@@ -57,7 +50,7 @@ module _ (t : Terms) (room : t .count < length (t .kind)) where
       (rw (getD-set-same (t .kind) (t .count) 0 0 room))
 
   -- the struct by what was stored: each value is a fact of its own
-  pub puts-variable : t .count < 64 → (k : ℕ) → k ≡ 0
+  pub puts-variable : t .count < nodeLimit → (k : ℕ) → k ≡ 0
       → PutsNode t variable (withVariable t) (terms (t .count + 1) (set (t .kind) (t .count) k) (t .symbol) (t .arity) (t .child))
   puts-variable h k e =
       rw e (record { exact = refl; count = refl; nodes = λ s. variable-nodes; shape = variable-shape h })
@@ -172,7 +165,7 @@ module _ (t : Terms) (f : ℕ) (cs : List ℕ) (S : TermsShape t) (R : Room t cs
           let k : j < length cs = omega (arith, h, ap (arityAt (withFunctor t f cs)) q, arity-new) in
           rw q (rw (child-new j k) (below-each (t .count) cs (R .known) j k))
 
-      earlier-other : (u j : ℕ) → (u ≡ t .count → ⊥) → u < 64 → j < arityAt (withFunctor t f cs) u → childAt (withFunctor t f cs) u j < u
+      earlier-other : (u j : ℕ) → (u ≡ t .count → ⊥) → u < nodeLimit → j < arityAt (withFunctor t f cs) u → childAt (withFunctor t f cs) u j < u
       earlier-other u j d l h =
           let k : j < arityAt t u = rw (arity-other u d) at h in
           rw (child-other u j d (omega (arith, S .arities u l))) (S .earlier u j l k)
@@ -186,7 +179,7 @@ module _ (t : Terms) (f : ℕ) (cs : List ℕ) (S : TermsShape t) (R : Room t cs
       variable-new : (u : ℕ) → u ≡ t .count → kindAt (withFunctor t f cs) u ≡ 0 → ⊥
       variable-new u q e = omega (arith, ap (kindAt (withFunctor t f cs)) q, kind-new, e)
 
-      variable-other : (u : ℕ) → (u ≡ t .count → ⊥) → u < 64 → kindAt (withFunctor t f cs) u ≡ 0
+      variable-other : (u : ℕ) → (u ≡ t .count → ⊥) → u < nodeLimit → kindAt (withFunctor t f cs) u ≡ 0
           → (symbolAt (withFunctor t f cs) u ≡ 0) × (arityAt (withFunctor t f cs) u ≡ 0)
       variable-other u d l e =
           let v : (symbolAt t u ≡ 0) × (arityAt t u ≡ 0) = S .variables u l (sym (kind-other u d) ∙ e) in
@@ -198,56 +191,3 @@ pub puts-functor : (t : Terms) (f : ℕ) (cs : List ℕ) → Room t cs
     (terms (t .count + 1) (set (t .kind) (t .count) k) (set (t .symbol) (t .count) f) (set (t .arity) (t .count) a) child)
 puts-functor t f cs R k ek a ea child ec =
     rw (ek, ea, ec) (record { exact = refl; count = refl; nodes = λ S. functor-nodes t f cs S R; shape = λ S. functor-shape t f cs S R })
-
--- ---- an equation
-
--- the array's lengths, as the struct's own rule says
-pub record Full (e : Equations) : Type 0 where
-  pub names : length (e .name) ≡ 256
-  pub lefts : length (e .left) ≡ 256
-  pub rights : length (e .right) ≡ 256
-
-module _ (e : Equations) (n u v : ℕ) (F : Full e) (room : e .count < 256) where
-  new : (l : List ℕ) (x i : ℕ) → length l ≡ 256 → i ≡ e .count → getD (set l (e .count) x) i 0 ≡ x
-  new l x i z q = ap (λ (j : ℕ). getD (set l (e .count) x) j 0) q ∙ getD-set-same l (e .count) x 0 (omega arith)
-
-  other : (l : List ℕ) (x i : ℕ) → (i ≡ e .count → ⊥) → getD (set l (e .count) x) i 0 ≡ getD l i 0
-  other l x i d = getD-set-other l (e .count) i x 0 d
-
-  equation-list : equationsOf (withEquation e n u v) ≡ equationsOf e ++ (equationOf n u v ∷ [])
-  unfolding equationsOf
-  equation-list =
-      tab-put (e .count) (e .count + 1) (equationAt e) (equationAt (withEquation e n u v)) (equationOf n u v) refl
-      (λ i h.
-      let d : i ≡ e .count → ⊥ = λ q. omega arith in
-      rw (other (e .name) n i d, other (e .left) u i d, other (e .right) v i d))
-      (rw (new (e .name) n (e .count) (F .names) refl, new (e .left) u (e .count) (F .lefts) refl, new (e .right) v (e .count) (F .rights) refl))
-
-  equation-shape : (m : ℕ) → EquationsShape m e → u < m → v < m → nameHeld n (equationsOf e) ≡ false → EquationsShape m (withEquation e n u v)
-  unfolding equationsOf
-  equation-shape m s hu hv unheld = record {
-    name-size = length-set (e .name) (e .count) n ∙ s .name-size;
-    left-size = length-set (e .left) (e .count) u ∙ s .left-size;
-    right-size = length-set (e .right) (e .count) v ∙ s .right-size;
-    few = omega arith;
-    lefts = λ i h. ⊎-elim (λ q. rw (new (e .left) u i (F .lefts) q) hu) (λ d. rw (other (e .left) u i d) (s .lefts i (before i h d))) (same-or-other (e .count) i);
-    rights = λ i h. ⊎-elim (λ q. rw (new (e .right) v i (F .rights) q) hv) (λ d. rw (other (e .right) v i d) (s .rights i (before i h d))) (same-or-other (e .count) i);
-    distinct = λ i j l h q. ⊎-elim (λ p. new-name i (omega arith) (sym (other (e .name) n i (λ z. omega arith)) ∙ q ∙ new (e .name) n j (F .names) p)) (λ d. s .distinct i j l (before j h d) (sym (other (e .name) n i (λ z. omega (arith, before j h d))) ∙ q ∙ other (e .name) n j d)) (same-or-other (e .count) j);
-    unused-names = λ i h l. other (e .name) n i (λ q. omega arith) ∙ s .unused-names i (omega arith) l;
-    unused-lefts = λ i h l. other (e .left) u i (λ q. omega arith) ∙ s .unused-lefts i (omega arith) l;
-    unused-rights = λ i h l. other (e .right) v i (λ q. omega arith) ∙ s .unused-rights i (omega arith) l;
-  }
-    where
-      before : (i : ℕ) → i < e .count + 1 → (i ≡ e .count → ⊥) → i < e .count
-      before i h d = ⊎-elim (λ q. absurd (d q)) (λ q. q) (eq-or-lt-of-le (le-of-suc-le-suc (omega (arith, h))))
-
-      new-name : (i : ℕ) → i < e .count → getD (e .name) i 0 ≡ n → ⊥
-      new-name i h q =
-          let z : _≡_ {A = Bool} true false = sym (held-at n (e .count) (equationAt e) i h q) ∙ unheld in
-          let y : _≡_ {A = ℕ} 0 1 = cc in
-          omega arith
-
-  -- the struct by the places that were stored to
-  pub puts-equation : (i j k : ℕ) → i ≡ e .count → j ≡ e .count → k ≡ e .count
-      → PutsEquation e n u v (equations (e .count + 1) (set (e .name) i n) (set (e .left) j u) (set (e .right) k v))
-  puts-equation i j k p q r = rw (p, q, r) (record { exact = refl; count = refl; held = equation-list; shape = equation-shape })
