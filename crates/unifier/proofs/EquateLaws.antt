@@ -18,7 +18,7 @@ use Rattle.store.specs.Shape.{EquationsShape, Shape}
 use Rattle.store.specs.Operations.{PutsEquation, withEquation}
 use Rattle.store.specs.declared.Equations.{Equations}
 use Rattle.store.proofs.ViewLaws.{nodes-length, equations-length, shape-proper}
-use Rattle.store.proofs.PutLaws.{Full, puts-equation}
+use Rattle.store.proofs.PutEquationLaws.{Full, puts-equation}
 use Rattle.solve_trace.proofs.NodeLaws.{formed}
 use Rattle.solve_closure.specs.Settled.{OfferFits, Before}
 use Rattle.solve.specs.Decided.{number, Decided, Resumable}
