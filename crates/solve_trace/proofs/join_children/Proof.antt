@@ -33,16 +33,16 @@ array-read-cy c =
     omega (arith, c .wide2 .ensures, a .before .pre .1 .1 (a .loop .k) (search needs) .1)
 
 unite-requires : tie.Need-unite-requires Inv-loop μ-loop
-unite-requires c κs = c .before .before .before .before .before .before .loop .inv .1 .extends .ready .table
+unite-requires c κs = c .before .before .before .before .before .before .before .loop .inv .1 .extends .ready .table
 
 element-write-trace : tie.Need-element-write-trace Inv-loop μ-loop
 element-write-trace c =
-    let a = c .before .before .before .before .before .before .before in
+    let a = c .before .before .before .before .before .before .before .before in
     omega (arith, ready-room (a .loop .inv .1 .extends .ready))
 
 add-n : tie.Need-add-n Inv-loop μ-loop
 add-n c =
-    let a = c .before .before .before .before .before .before .before in
+    let a = c .before .before .before .before .before .before .before .before in
     omega (arith, ready-room (a .loop .inv .1 .extends .ready))
 
 loop-again : tie.Need-loop-again Inv-loop μ-loop
@@ -54,9 +54,9 @@ loop-again c =
     let H = a .before .pre .1 in (
       search needs,
       ⊎-elim
-          (λ w. rw (w .2, w .3, w .4)
-          (pairs-more _ _ _ (a .loop .k) _ (λ j h. H .1 j (omega arith)) (λ s E. entry-is _ (omega arith) (E _ (a .loop .k) (P .extends .grows _ _ (H .0 .0) (H .0 .1) (H .0 .3)) (search needs))) P
-          (grown (rw (← w1 .wide .ensures, ← w2 .wide2 .ensures) (w .0 .taken)) (w .1 .ensures _ _ (H .1 (a .loop .k) (search needs) .0) (H .1 (a .loop .k) (search needs) .1) (ap (class (a .loop .t)) (w1 .wide .ensures)) (ap (class (a .loop .t)) (w2 .wide2 .ensures))))))
+          (λ w. rw (w .3, w .4, w .5)
+          (pairs-more _ _ _ (a .loop .k) _ (λ j h. H .1 j (omega arith)) (λ s E. entry-is _ (w .1 .ensures) (E _ (a .loop .k) (P .extends .grows _ _ (H .0 .0) (H .0 .1) (H .0 .3)) (search needs))) P
+          (grown (rw (← w1 .wide .ensures, ← w2 .wide2 .ensures) (w .0 .taken)) (w .2 .ensures _ _ (H .1 (a .loop .k) (search needs) .0) (H .1 (a .loop .k) (search needs) .1) (ap (class (a .loop .t)) (w1 .wide .ensures)) (ap (class (a .loop .t)) (w2 .wide2 .ensures))))))
           (λ w. rw (w .1, w .2, w .3) (pairs-skip _ _ _ (a .loop .k) (rw (← w1 .wide .ensures, ← w2 .wide2 .ensures) (w .0 .left)) P))
           (c .if1 .came),
     )
@@ -81,13 +81,8 @@ join-children-spec =
     array-read-cx
     (λ c κs. search needs)
     array-read-cy
-    (λ c. search needs)
-    (λ c. search needs)
-    (λ c. search needs)
-    (λ c. search needs)
-    (λ c. search needs)
+    (λ c κs. search needs)
     unite-requires
-    (λ c. search needs)
     (λ c. search needs)
     element-write-trace
     add-n
