@@ -3,6 +3,7 @@ ghost use mathlib.Core.Path.{_≡_};
 ghost use Prim.Native.Nat.{ℕ, _+_, _*_, _≤_, _<_};
 ghost use lib.ListN.{getD};
 ghost use Rattle.base.specs.Tells.{Tells};
+ghost use Rattle.graph.specs.Limits.{childLimit, equationLimit};
 ghost use Rattle.solve_classes.specs.Table.{class};
 ghost use Rattle.solve_trace.specs.Packing.{nodeBase, placeBase, entryOf, firstOf, secondOf, placeOf};
 ghost use Rattle.solve_trace.specs.Nodes.{EquationEnds};
@@ -21,7 +22,7 @@ const PLACE_BASE: usize = 4096;
 
 // The entry of two nodes and a place, counted from 0.
 pub fn entry(place: usize, u: usize, v: usize) -> u16
-    requires { ⌜ (place < 4) × ((u < nodeBase) × (v < nodeBase)) ⌝ }
+    requires { ⌜ (place < childLimit) × ((u < nodeBase) × (v < nodeBase)) ⌝ }
     ensures { λ r. ⌜ r ≡ entryOf u v place ⌝ }
 {
     ((place + 1) * PLACE_BASE + u * NODE_BASE + v) as u16
@@ -93,7 +94,7 @@ pub fn join_equations(
     right: &[u8; 256],
 ) -> Progress
     requires { ⌜ TraceFits table (now trace) steps ⌝ }
-    requires { ⌜ m ≤ 256 ⌝ }
+    requires { ⌜ m ≤ equationLimit ⌝ }
     requires { ⌜ ((k : ℕ) → k < m → (getD (now left) k 0 < 64) × (getD (now right) k 0 < 64)) ⌝ }
     ensures { λ r. ⌜ PairsJoined (EquationEnds m (now (left .entry)) (now (right .entry)))
         (λ (k : ℕ). getD (now (left .entry)) k 0) (λ (k : ℕ). getD (now (right .entry)) k 0) m
@@ -129,7 +130,7 @@ pub fn join_children(
     child: &[u8; 256],
 ) -> Progress
     requires { ⌜ TraceFits table (now trace) steps ⌝ }
-    requires { ⌜ (u < 64) × (v < 64) × (places ≤ 4) × (class table u ≡ class table v) ⌝ }
+    requires { ⌜ (u < 64) × (v < 64) × (places ≤ childLimit) × (class table u ≡ class table v) ⌝ }
     requires { ⌜ ((k : ℕ) → k < places → (getD (now child) (4 * u + k) 0 < 64) × (getD (now child) (4 * v + k) 0 < 64)) ⌝ }
     ensures { λ r. ⌜ PairsJoined (Places (now (child .entry)) u v places)
         (λ (k : ℕ). getD (now (child .entry)) (4 * u + k) 0) (λ (k : ℕ). getD (now (child .entry)) (4 * v + k) 0) places

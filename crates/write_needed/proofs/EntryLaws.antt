@@ -8,6 +8,7 @@ use native.Mathlib.Omega.{arith}
 use lib.ListN.{length, getD, take}
 use lib.Seq.{length-take-le, take-all, take-nil, take-append-le, getD-take}
 use borrow.Author.Tests.{lt-ltb, le-ltb}
+use Rattle.graph.specs.Limits.{childLimit, equationLimit}
 use Rattle.graph.specs.State.{State}
 use Rattle.base.proofs.ListLaws.{found-lt}
 use Rattle.solve_classes.specs.Table.{class}
@@ -46,11 +47,11 @@ module _ {left right child : List ℕ} (s : State) (D : EndsAndChildren left rig
         child-end right q _ j y _ (entry-of p q j) k (second-of p q j hp hq) (D .children q g j y ds m b .1),
       )
 
-  entry-held : {t : List ℕ} {e x y : ℕ} → Reason s t e x y → e < placeBase → e < 256
+  entry-held : {t : List ℕ} {e x y : ℕ} → Reason s t e x y → e < placeBase → e < equationLimit
   entry-held (equation {e = d} k h) l = omega (arith, found-lt (s .equations) k d h, D .limited .few)
   entry-held (down p q j c n m w a b) l = absurd (omega arith)
 
-  entry-placed : {t : List ℕ} {e x y : ℕ} → Reason s t e x y → placeOf e ≤ 4
+  entry-placed : {t : List ℕ} {e x y : ℕ} → Reason s t e x y → placeOf e ≤ childLimit
   entry-placed (equation {e = d} k h) = omega (arith, found-lt (s .equations) k d h, D .limited .few)
   entry-placed (down p q j {f} {g} {x} {y} {cs} {ds} c n m w a b) =
       omega (arith, D .limited .fits, found-lt (s .nodes) p _ n, found-lt (s .nodes) q _ m, D .children p f j x cs n a .0)

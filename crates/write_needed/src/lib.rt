@@ -4,6 +4,7 @@ ghost use mathlib.Core.Path.{_≡_};
 ghost use mathlib.Core.Bool.{true};
 ghost use Prim.Native.Nat.{ℕ, _-_, _≤_, _<_};
 ghost use lib.ListN.{length, getD};
+ghost use Rattle.graph.specs.Limits.{nodeLimit, childLimit, equationLimit};
 ghost use Rattle.solve_trace.specs.Packing.{placeBase, placeOf};
 ghost use Rattle.write_needed.specs.Entries.{endAt, AllInRange, Together};
 ghost use Rattle.write_needed.specs.Trim.{PairsTogether, Rejoins, Among, Trimmed};
@@ -16,7 +17,7 @@ pub struct Needed {
 
 // The node that an entry joins on one side: an equation's end, or the child of `node` at the entry's place.
 pub fn end_of<'a>(reason: u16, node: usize, ends: &'a [u8; 256], child: &'a [u8; 256]) -> u8
-    requires { ⌜ (reason < placeBase → reason < 256) × ((placeOf reason ≤ 4) × (node < 64)) ⌝ }
+    requires { ⌜ (reason < placeBase → reason < equationLimit) × ((placeOf reason ≤ childLimit) × (node < nodeLimit)) ⌝ }
     ensures { λ r. ⌜ r ≡ endAt (now (ends .entry)) (now (child .entry)) node reason ⌝ }
 {
     if solve_trace::is_equation(reason) {

@@ -8,7 +8,7 @@ use native.Mathlib.Nat.{eq-or-lt-of-le}
 use native.Mathlib.Omega.{arith}
 use lib.Dec.{eqb, leb}
 use borrow.Author.Tests.{eqb-true, eqb-false, eq-eqb, ne-eqb}
-use Rattle.solve_classes.specs.Table.{class, Fresh, Merged, mergedClass, root, classCount}
+use Rattle.solve_classes.specs.Table.{class, Merged, mergedClass, root, classCount}
 use Rattle.base.specs.Sum.{sumTo}
 use Rattle.write_runs.specs.Runs.{inClassCount}
 
@@ -47,16 +47,6 @@ class-size t c n h =
     omega (arith, grows (inClassCount t c) n 64 h, counted t c 64 .1)
 
 -- ---- the number of classes
-
-all-roots : (t : List ℕ) → Fresh t → (n : ℕ) → n ≤ 64 → n ≤ sumTo (root t) n
-unfolding sumTo
-all-roots t F zero h = omega arith
-all-roots t F (suc n) h =
-    let one : root t n ≡ 1 = (rw (eq-eqb (class t n) n (F .alone n (omega arith)))) in
-    omega (arith, all-roots t F n (omega arith))
-
-pub fresh-count : (t : List ℕ) → Fresh t → 64 ≤ classCount t
-fresh-count t F = all-roots t F 64 (omega arith)
 
 -- the class number that goes
 abbrev gone : (ℕ → ℕ) → ℕ → ℕ → ℕ

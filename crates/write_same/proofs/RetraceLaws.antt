@@ -9,6 +9,7 @@ use lib.Seq.{length-take-le, take-suc, take-take, getD-take}
 use Rattle.graph.specs.State.{State, IsNode}
 use Rattle.graph.specs.Lines.{same}
 use Rattle.solve_classes.specs.Table.{class, Fresh, Merged}
+use Rattle.solve_classes.proofs.CountLaws.{fresh-count}
 use Rattle.base.specs.Sum.{sumTo}
 use Rattle.base.proofs.SumLaws.{sum-none, sum-more}
 use Rattle.solve_trace.specs.Packing.{placeBase, firstOf, secondOf, placeOf}
@@ -19,7 +20,7 @@ use Rattle.proof_lines.specs.Codec.{line, Put}
 use Rattle.write_runs.specs.Written.{ClaimAt, LinesClaim}
 use Rattle.write_runs.specs.Runs.{Pen, Linked, Started, Rewired}
 use Rattle.write_runs.proofs.Claims.{claim-equation, claim-down, written-more, concludes, kept-put, kept-kept, kept-none}
-use Rattle.write_runs.proofs.SizeLaws.{grows, fresh-count, one-fewer}
+use Rattle.write_runs.proofs.SizeLaws.{grows, one-fewer}
 use Rattle.write_runs.proofs.RunLaws.{started-pen}
 use Rattle.write_needed.specs.Entries.{endAt, EndsAndChildren}
 use Rattle.write_needed.specs.Trim.{Trimmed}

@@ -4,6 +4,7 @@
 ghost use mathlib.Core.Path.{_≡_};
 ghost use Prim.Native.Nat.{ℕ, _+_, _*_, _≤_, _<_};
 ghost use lib.ListN.{length, getD};
+ghost use Rattle.graph.specs.Limits.{nodeLimit, equationLimit, lineLimit, bufferBytes};
 ghost use Rattle.solve_trace.specs.Packing.{placeBase};
 ghost use Rattle.write_needed.specs.Entries.{AllInRange};
 ghost use Rattle.write_same.specs.Replay.{EntryReplayed, Retraced, Prepared, Explained};
@@ -20,9 +21,9 @@ fn step(
     name: &[u16; 256],
     to: &mut [u16; 64],
 ) -> usize
-    requires { ⌜ (nodes ≤ 64) × ((n + 70 ≤ 8192) × (65536 ≤ length (now buf))) ⌝ }
+    requires { ⌜ (nodes ≤ nodeLimit) × ((n + 70 ≤ lineLimit) × (bufferBytes ≤ length (now buf))) ⌝ }
     requires { ⌜ (length (now to) ≡ 64) × ((a < 64) × (b < 64)) ⌝ }
-    requires { ⌜ (reason < placeBase → reason < 256) ⌝ }
+    requires { ⌜ (reason < placeBase → reason < equationLimit) ⌝ }
     ensures { λ r. ⌜ EntryReplayed (now (name .entry)) (now (buf .entry)) (now (to .entry)) n nodes table reason a b (now (buf .exit)) (now (to .exit)) r ⌝ }
 {
     if solve_trace::is_equation(reason) {
@@ -56,7 +57,7 @@ pub fn replay<'a>(
     child: &'a [u8; 256],
     to: &mut [u16; 64],
 ) -> usize
-    requires { ⌜ (n ≤ 64) × ((nodes ≤ 64) × ((steps ≤ 63) × (65536 ≤ length (now buf)))) ⌝ }
+    requires { ⌜ (n ≤ 64) × ((nodes ≤ nodeLimit) × ((steps ≤ 63) × (bufferBytes ≤ length (now buf)))) ⌝ }
     requires { ⌜ length (now to) ≡ 64 ⌝ }
     requires { ⌜ (length (now trace) ≡ 64) × AllInRange (now trace) steps (now left) (now right) (now child) ⌝ }
     ensures { λ r. ⌜ Retraced nodes (now (name .entry)) (now (left .entry)) (now (right .entry)) (now (child .entry)) (now (trace .entry)) (now (buf .entry)) (now (to .entry)) n steps (now (buf .exit)) (now (to .exit)) r ⌝ }
@@ -96,7 +97,7 @@ pub fn prepare<'a>(
     n: usize,
     to: &mut [u16; 64],
 ) -> usize
-    requires { ⌜ (nodes ≤ 64) × ((steps ≤ 63) × (65536 ≤ length (now buf))) ⌝ }
+    requires { ⌜ (nodes ≤ nodeLimit) × ((steps ≤ 63) × (bufferBytes ≤ length (now buf))) ⌝ }
     requires { ⌜ length (now to) ≡ 64 ⌝ }
     requires { ⌜ (length (now trace) ≡ 64) × AllInRange (now trace) steps (now left) (now right) (now child) ⌝ }
     requires { ⌜ (u < 64) × ((v < 64) × (n ≤ 64)) ⌝ }
@@ -123,7 +124,7 @@ pub fn explain_same<'a>(
     u: u8,
     v: u8,
 ) -> usize
-    requires { ⌜ (nodes ≤ 64) × ((steps ≤ 63) × (65536 ≤ length (now buf))) ⌝ }
+    requires { ⌜ (nodes ≤ nodeLimit) × ((steps ≤ 63) × (bufferBytes ≤ length (now buf))) ⌝ }
     requires { ⌜ (u < 64) × (v < 64) ⌝ }
     requires { ⌜ (length (now trace) ≡ 64) × AllInRange (now trace) steps (now left) (now right) (now child) ⌝ }
     ensures { λ r. ⌜ Explained nodes (now (name .entry)) (now (left .entry)) (now (right .entry)) (now (child .entry)) (now (trace .entry)) steps (now (buf .entry)) u v (now (buf .exit)) r ⌝ }

@@ -1,6 +1,5 @@
 -- `solve_trace::is_equation` meets its contract.
 use Rattle.base.proofs.TellLaws.{tells-lt}
-use borrow.Author.Needs.{needs}
 use Rattle.solve_trace.proofs.is_equation.Statement.{statement}
 use Rattle.solve_trace.proofs.is_equation.Tie as tie
 
