@@ -20,8 +20,8 @@ use Rattle.solve_classes.specs.Table.{class, Table}
 use Rattle.solve_classes.specs.Exact.{Exact}
 use Rattle.solve_trace.specs.Nodes.{Nodes, IsFunctor, Formed}
 use Rattle.solve_trace.proofs.NodeLaws.{functor-found, known}
-use Rattle.solve_heights.proofs.CountLaws.{equal-or-not}
-use Rattle.solve_heights.proofs.PeelLaws.{class-low}
+use Rattle.base.proofs.CaseLaws.{same-or-other}
+use Rattle.solve_heights.proofs.SummandLaws.{class-low}
 use Rattle.solve_heights.specs.Peel.{heightAt, Peeled}
 use Rattle.solve_heights.proofs.OutcomeLaws.{child-under, cycle-left}
 use Rattle.solve_reach.specs.Reach.{levelOf, Edge, Searched}
@@ -67,7 +67,7 @@ module _ (g : Terms) (s : State) (t parent place into level : List ℕ) (u : ℕ
       (λ n.
       let O = R .ways .onward d d-low a in
       below-below (sound l p (S .functor .known) (O .reached n) (omega (arith, O .bounded n, b, a))) down)
-      (equal-or-not (class t p) (class t u))
+      (same-or-other (class t u) (class t p))
 
   -- down from a source every class was reached
   Leads : ℕ → ℕ → Type 0
