@@ -3,7 +3,9 @@
 --   Agree     two functor nodes have one label, and children of one class, place by place
 --   Closed    functor nodes of one class agree: the table keeps the rules of the closure
 --   noHead    stands for the head of a class that has none: no node has this number
+--   Meeting   what a pair asks: two functor nodes of one class; Pair: what it gives
 --   Meets     what a node finds at its visit: no head of its class yet, or a head to agree with
+--   Round     a round over all nodes; Rounds: rounds to the end
 use mathlib.Core.Path.{_≡_}
 use mathlib.Core.Bool.{Bool, true, false}
 use mathlib.Core.List.{List}

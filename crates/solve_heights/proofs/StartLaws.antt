@@ -13,15 +13,12 @@ use Rattle.base.specs.Sum.{sumTo}
 use Rattle.base.proofs.CaseLaws.{same-or-other}
 use Rattle.base.proofs.SumLaws.{sum-none, sum-more, sum-at, sum-most}
 use Rattle.store.specs.declared.Terms.{Terms}
-use Rattle.solve_classes.specs.Table.{class, root, Table}
+use Rattle.solve_classes.specs.Table.{class, memberAt, root, Table}
 use Rattle.solve_trace.specs.Nodes.{Formed}
 use Rattle.solve_heights.specs.Peel.{noHeight, heightAt, leftAt}
 use Rattle.solve_heights.specs.Passes.{waitAt, Peeling, Counted}
 use Rattle.solve_heights.proofs.CountLaws.{sum-agree}
 use Rattle.solve_heights.proofs.SummandLaws.{wait-in, root-most, class-low}
-
-abbrev pub memberAt : List ℕ → ℕ → ℕ → ℕ
-memberAt t c u = cond (eqb (class t u) c) 1 0
 
 pub counted-none : (t : List ℕ) → Counted t 0 (replicate 64 0) 0
 counted-none t =

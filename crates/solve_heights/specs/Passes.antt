@@ -13,7 +13,7 @@ use Prim.Native.Nat.{ℕ, _+_, _-_, _≤_, _<_}
 use lib.Dec.{eqb}
 use lib.ListN.{length, getD}
 use Rattle.store.specs.declared.Terms.{Terms}
-use Rattle.solve_classes.specs.Table.{class, root, Table}
+use Rattle.solve_classes.specs.Table.{class, memberAt, root, Table}
 use Rattle.base.specs.Sum.{sumTo}
 use Rattle.solve_trace.specs.Nodes.{Formed}
 use Rattle.solve_heights.specs.Nodes.{IsClass}
@@ -49,7 +49,7 @@ pub record Peeling (g : Terms) (t h p w : List ℕ) (went : ℕ) : Type 0 where
 -- the first i nodes are counted: w has how many nodes each class has, n is how many classes there are
 pub record Counted (t : List ℕ) (i : ℕ) (w : List ℕ) (n : ℕ) : Type 0 where
   pub size : length w ≡ 64
-  pub members : (c : ℕ) → c < 64 → getD w c 0 ≡ sumTo (λ u. cond (eqb (class t u) c) 1 0) i
+  pub members : (c : ℕ) → c < 64 → getD w c 0 ≡ sumTo (memberAt t c) i
   pub classes : n ≡ sumTo (root t) i
 
 -- what a visit of node u asks

@@ -1,10 +1,13 @@
 -- Heights of classes, found by peeling: a class goes once every child of every functor node in it lies in a class that went before.
 -- Its height is the number of classes that went before it; while it is left it has none.
 --   noHeight  stands for the height of a class that has none
+--   heightAt  the height of a class number
+--   classes   how many classes the known nodes have
+--   left      how many of them are left
+--   Lower     heights rise from child to parent
 --   Stuck     a functor node with a child in a class that is left
 --   Blocked   a class with such a node
---   left      how many classes are left
---   Peeled    what the peel gives: heights that rise from child to parent, and what is left is blocked by what is left
+--   Peeled    what the peel gives: heights that rise, and what is left is blocked by what is left
 use mathlib.Core.Path.{_≡_}
 use mathlib.Core.Bool.{cond}
 use mathlib.Core.List.{List}
