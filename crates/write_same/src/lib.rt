@@ -32,15 +32,9 @@ fn step(
     }
     let i = to[solve_trace::first_of(reason)];
     let j = to[solve_trace::second_of(reason)];
+    let place = solve_trace::place_of(reason) as u8;
     write_runs::link(buf, n, i, j);
-    proof_lines::put_line(
-        buf,
-        n + 2,
-        6,
-        solve_trace::place_of(reason) as u8,
-        n as u16 + 1,
-        0,
-    );
+    proof_lines::put_line(buf, n + 2, 6, place, n as u16 + 1, 0);
     write_runs::rewire(buf, n + 3, nodes, table, n as u16 + 2, a, b, to)
 }
 

@@ -21,9 +21,9 @@ returns-2 : tie.Need-returns-2
 returns-2 c =
     let r = c .before .before in
     let q = r .before .before .before .before .before in
-    let p = q .before in
-    let k = p .before .before .before .before in
-    let s = k .before .before .before in
+    let k = q .before .before .before .before in
+    let p = k .before .before in
+    let s = p .before .before in
     let f = s .before .before in
     let i = f .before in
     stepped-place (i .before .is-equation .ensures .fails (i .if1 .left)) (f .first-of .ensures) (s .second-of .ensures) (p .place-of .ensures) (k .link .ensures) (q .put-line2 .ensures) (r .rewire2 .ensures)
