@@ -17,7 +17,7 @@ use Rattle.solve_trace.specs.Nodes.{Nodes, Formed}
 use Rattle.solve_trace.proofs.NodeLaws.{functor-found}
 use Rattle.solve_trace.proofs.StepLaws.{ready-room}
 use Rattle.solve_heights.specs.Peel.{heightAt, Peeled}
-use Rattle.solve_heights.proofs.PeelLaws.{is-class, none-left}
+use Rattle.solve_heights.proofs.SummandLaws.{is-class, none-left}
 use Rattle.solve_heights.proofs.OutcomeLaws.{child-under, cycle}
 use Rattle.solve_closure.specs.Rounds.{Clashing}
 use Rattle.solve_closure.specs.Settled.{RoundsEnded, Settled}

@@ -11,6 +11,7 @@ use borrow.Author.Tests.{eqb-true, eqb-false}
 use Rattle.solve_classes.specs.Table.{class, Table, Fresh, Merged, root, classCount}
 use Rattle.base.specs.Sum.{sumTo}
 use Rattle.solve_classes.specs.Merges.{Merges, start, merge}
+use Rattle.solve_classes.proofs.TableLaws.{class-small}
 use Rattle.base.proofs.SumLaws.{sum-le, sum-same, sum-at, sum-most}
 
 root-cases : (t : List ℕ) (i : ℕ) → ((class t i ≡ i) × (root t i ≡ 1)) ⊎ ((class t i ≡ i → ⊥) × (root t i ≡ 0))
@@ -35,7 +36,7 @@ module _ (s r : List ℕ) (S : Table s) (R : Table r)
     (grows : (x y : ℕ) → x < 64 → y < 64 → class s x ≡ class s y → class r x ≡ class r y) where
   lower : (i : ℕ) → i < 64 → class r i ≤ class s i
   lower i h =
-      let b : class s i < 64 = omega (arith, S .low i h) in
+      let b = class-small S i h in
       omega (arith, grows (class s i) i b h (S .fixed i h), R .low (class s i) b)
 
   roots-fewer : (i : ℕ) → i < 64 → root r i ≤ root s i
@@ -48,7 +49,7 @@ module _ (s r : List ℕ) (S : Table s) (R : Table r)
   -- no fewer classes: the same table
   pub same-count : classCount s ≤ classCount r → (i : ℕ) → i < 64 → class s i ≡ class r i
   same-count l i h =
-      let m : class s i < 64 = omega (arith, S .low i h) in
+      let m = class-small S i h in
       let e : root s (class s i) ≡ root r (class s i) = sum-same (root s) (root r) 64 roots-fewer l (class s i) m in
       let k : class r (class s i) ≡ class s i
       = ⊎-elim

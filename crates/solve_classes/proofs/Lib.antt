@@ -1,4 +1,11 @@
--- Laws of class tables: a loop that maps an array, sums, merges, the number of classes, sets of numbers, a class's members.
+-- Laws of class tables.
+--   TableLaws    an entry is a node's number
+--   MapLaws      a loop that maps an array in place
+--   MergeLaws    what joining two classes does
+--   CountLaws    the number of classes, and of merges
+--   SetLaws      sets of numbers
+--   MemberLaws   a class's members
+pub mod TableLaws
 pub mod MapLaws
 pub mod MergeLaws
 pub mod CountLaws

@@ -81,10 +81,6 @@ module _ (t : List ℕ) (T : Table t) (x : ℕ) (h : x < 64) where
   pub lowest-class : lowestFrom (inClass t (class t x)) 0 64 ≡ class t x
   lowest-class = lowest-from (inClass t (class t x)) (class t x) 0 64 class-is-lowest (omega arith) (omega (arith, T .low x h))
 
-  -- its size is the number of nodes of one class with x
-  pub size-class : CountOf (λ y. class t y ≡ class t x) 64 (sizeOf (inClass t (class t x)) 64)
-  size-class = count-test _ (inClass t (class t x)) 64 (λ k l e. eqb-true _ _ e) (λ k l e. eqb-false _ _ e)
-
 -- ---- nodes that the state doesn't have
 
 pub alone-fresh : (n : ℕ) (t : List ℕ) → Fresh t → Alone n t

@@ -8,6 +8,7 @@ use native.Mathlib.Omega.{arith}
 use lib.Dec.{eqb}
 use borrow.Author.Tests.{eqb-true, eqb-false, le-leb, lt-leb}
 use Rattle.solve_classes.specs.Table.{class, Relabelled, Table, JoinedBy, Merged}
+use Rattle.solve_classes.proofs.TableLaws.{class-small}
 
 -- the two cases of an entry
 pub cond-cases : (x gone keep : ℕ)
@@ -38,13 +39,10 @@ module _ (t r : List ℕ) (a b : ℕ) (ha : a < 64) (hb : b < 64) (T : Table t) 
   unfolding Cases
   low i h = ⊎-elim (λ p. omega (arith, T .low i h)) (λ p. omega (arith, T .low i h)) (cases i h)
 
-  in-range : (i : ℕ) → i < 64 → class t i < 64
-  in-range i h = omega (arith, T .low i h)
-
   -- the kept class's own entry stands
   kept : class r (class t a) ≡ class t a
   unfolding Cases
-  kept = ⊎-elim (λ p. p .1) (λ p. p .1 ∙ T .fixed a ha) (cases (class t a) (in-range a ha))
+  kept = ⊎-elim (λ p. p .1) (λ p. p .1 ∙ T .fixed a ha) (cases (class t a) (class-small T a ha))
 
   fixed : (i : ℕ) → i < 64 → class r (class r i) ≡ class r i
   unfolding Cases
@@ -52,7 +50,7 @@ module _ (t r : List ℕ) (a b : ℕ) (ha : a < 64) (hb : b < 64) (T : Table t) 
       ⊎-elim
       (λ p. ap (class r) (p .1) ∙ kept ∙ sym (p .1))
       (λ p. ap (class r) (p .1)
-      ∙ ⊎-elim (λ q. absurd (p .0 (sym (T .fixed i h) ∙ q .0))) (λ q. q .1 ∙ T .fixed i h) (cases (class t i) (in-range i h))
+      ∙ ⊎-elim (λ q. absurd (p .0 (sym (T .fixed i h) ∙ q .0))) (λ q. q .1 ∙ T .fixed i h) (cases (class t i) (class-small T i h))
       ∙ sym (p .1))
       (cases i h)
 

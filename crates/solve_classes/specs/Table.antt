@@ -3,6 +3,7 @@
 --   Table        each entry is the lowest node of its class
 --   mergedClass  a node's entry once the classes of a and b are one, under the lower number
 --   Merged       what a merge gives: exact entry by entry, and what it does to "in one class"
+--   memberAt     how many nodes a class has is a sum of these
 --   classCount   the number of classes, which falls with each merge of two classes
 use mathlib.Core.Path.{_≡_}
 use mathlib.Core.List.{List}
@@ -44,6 +45,10 @@ pub record Merged (t : List ℕ) (a b : ℕ) (r : List ℕ) : Type 0 where
   pub entry : (x : ℕ) → x < 64 → class r x ≡ mergedClass (class t) a b x
   pub to : (x y : ℕ) → x < 64 → y < 64 → class r x ≡ class r y → JoinedBy t a b x y
   pub from : (x y : ℕ) → x < 64 → y < 64 → JoinedBy t a b x y → class r x ≡ class r y
+
+-- 1 where node i is in class c
+abbrev pub memberAt : List ℕ → ℕ → ℕ → ℕ
+memberAt t c i = cond (eqb (class t i) c) 1 0
 
 -- 1 where node i is the lowest of its class
 abbrev pub root : List ℕ → ℕ → ℕ

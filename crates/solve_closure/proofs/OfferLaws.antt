@@ -2,12 +2,11 @@
 use mathlib.Core.Path.{_≡_, sym, _∙_, ap}
 use mathlib.Core.Bool.{Bool}
 use mathlib.Core.Logic.{_⊎_, inl, inr, ⊎-elim}
-use mathlib.Core.List.{List, [], _∷_, _++_}
-use mathlib.Core.Option.{some}
-use Prim.Native.Nat.{ℕ, zero, suc, _<_}
+use mathlib.Core.List.{List, [], _∷_}
+use Prim.Native.Nat.{ℕ, _<_}
 use native.Mathlib.Omega.{arith}
-use lib.ListN.{getElem?}
-use Rattle.graph.specs.State.{Equation, State, IsNode, Held, Proper, offered}
+use Rattle.graph.specs.State.{Equation, State, IsNode, Held, offered}
+use Rattle.graph.proofs.StateLaws.{found-snoc, proper-offered}
 use Rattle.base.proofs.ListLaws.{found-append, found-last}
 use Rattle.solve_classes.specs.Table.{class}
 use Rattle.store.specs.declared.Terms.{Terms}
@@ -18,12 +17,6 @@ use Rattle.solve_closure.specs.Settled.{OfferFits, Before, Settled}
 use Rattle.solve_trace.proofs.NodeLaws.{fits, known}
 use Rattle.solve_trace.proofs.StepLaws.{extends-join, joins-ends}
 use Rattle.solve_closure.proofs.SettledLaws.{verdict}
-
-found-cases : {A : Type 0} (l : List A) (a b : A) (i : ℕ) → getElem? (l ++ (a ∷ [])) i ≡ some b → (getElem? l i ≡ some b) ⊎ (a ≡ b)
-found-cases [] a b zero h = inr (cc)
-found-cases [] a b (suc i) h = inl h
-found-cases (x ∷ xs) a b zero h = inl h
-found-cases (x ∷ xs) a b (suc i) h = found-cases xs a b i h
 
 module _ (s : State) (e : Equation) where
   reason-offered : {t : List ℕ} {r x y : ℕ} → Reason s t r x y → Reason (offered s e) t r x y
@@ -36,15 +29,7 @@ module _ (s : State) (e : Equation) where
 
   -- what the offered state holds
   held-cases : (d : Equation) → Held (offered s e) d → Held s d ⊎ (e ≡ d)
-  held-cases d h = ⊎-elim (λ q. inl (h .0, q)) (λ q. inr q) (found-cases (s .equations) e d (h .0) (h .1))
-
-  pub proper-offered : Proper s → IsNode s (e .left) → IsNode s (e .right) → Proper (offered s e)
-  proper-offered P hl hr =
-      record {
-        earlier = P .earlier;
-        left-known = λ d h. ⊎-elim (λ q. P .left-known d q) (λ q. rw q at hl) (held-cases d h);
-        right-known = λ d h. ⊎-elim (λ q. P .right-known d q) (λ q. rw q at hr) (held-cases d h);
-      }
+  held-cases d h = ⊎-elim (λ q. inl (h .0, q)) (λ q. inr (q .1)) (found-snoc (s .equations) e (h .0) d (h .1))
 
 -- the offered equation is entry m; then rounds
 pub solved-offered : (g : Terms) (m x y : ℕ) (t tr : List ℕ) (n : ℕ) {p ts : List ℕ} {i : ℕ} {r us : List ℕ} {k : ℕ} {clash : Bool} {u v : ℕ}
@@ -58,7 +43,7 @@ solved-offered g m x y t tr n {p} {ts} {i} {r} {us} {k} {clash} {u} {v} A J W s 
     rw (← B .lefts, ← B .rights) (equation m (found-last (s .equations) m e (B .count))) in
     let small : (w : ℕ) → IsNode s w → w < 64 = λ w h. omega (arith, fits g s (B .nodes) (A .formed)) in
     verdict g (offered s e) r us k clash u v (A .formed) (B .nodes)
-    (proper-offered s e (B .proper) (rw (B .lefts) (known g s (B .nodes) x (A .left))) (rw (B .rights) (known g s (B .nodes) y (A .right))))
+    (proper-offered s (B .proper) e (rw (B .lefts) (known g s (B .nodes) x (A .left))) (rw (B .rights) (known g s (B .nodes) y (A .right))))
     (W .extends .ready)
     (W .extends .traced (offered s e) (B .nodes) (X .traced (offered s e) why (traced-offered s e (B .traced))))
     (W .clashes)

@@ -6,16 +6,14 @@ use mathlib.Core.Option.{some}
 use Prim.Native.Nat.{ℕ, _<_}
 use native.Mathlib.Omega.{arith}
 use lib.ListN.{length, getD, take}
-use Rattle.graph.specs.State.{Equation, equationOf, State, stateWith, Held, Proper}
+use Rattle.graph.specs.State.{Equation, State, Held, Proper}
 use Rattle.graph.specs.Closure.{Clash}
 use Rattle.graph.specs.Solution.{Classes}
-use Rattle.base.specs.Tab.{tab}
 use Rattle.base.proofs.ListLaws.{found-lt}
 use Rattle.graph.proofs.SolutionLaws.{same-class}
-use Rattle.base.proofs.TabLaws.{tab-length, tab-at}
 use Rattle.solve_classes.specs.Table.{class, Fresh}
 use Rattle.solve_classes.specs.Exact.{Exact, Sound}
-use Rattle.store.specs.Views.{symbolAt, childrenAt, nodesOf, equationAt, stateFrom}
+use Rattle.store.specs.Views.{symbolAt, childrenAt, equationAt, stateFrom}
 use Rattle.store.specs.Shape.{Shape}
 use Rattle.store.specs.declared.Terms.{Terms}
 use Rattle.store.specs.declared.Equations.{Equations}
@@ -87,25 +85,6 @@ module _ (g : Terms) (s : State) (N : Nodes g s) (t : List ℕ) (inside : Sound 
 
     pub exact-of : Exact s t
     exact-of = record { classes = classes-of; table = λ u. refl; has = λ q. same-class s classes-of q; only = inside }
-
--- some state is held: the arrays', with names of 0
-pub some-state : Terms → ℕ → List ℕ → List ℕ → State
-some-state g m left right = stateWith (nodesOf g) (tab m (λ k. equationOf 0 (getD left k 0) (getD right k 0)))
-
-pub some-holds : (g : Terms) (m : ℕ) (left right : List ℕ) → ArraysHold g m left right (some-state g m left right)
-unfolding some-state
-some-holds g m left right =
-    record {
-      nodes = refl;
-      ends =
-          record {
-            at = λ k. equationOf 0 (getD left k 0) (getD right k 0);
-            found = λ k h. tab-at m (λ k. equationOf 0 (getD left k 0) (getD right k 0)) k h;
-            lefts = λ k h. refl;
-            rights = λ k h. refl;
-          };
-      count = tab-length m (λ k. equationOf 0 (getD left k 0) (getD right k 0));
-    }
 
 -- well-shaped arrays are what settling asks, and hold their own state
 pub given-shape : (g : Terms) (e : Equations) → Shape g e → Given g (e .count) (e .left) (e .right)

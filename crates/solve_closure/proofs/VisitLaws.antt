@@ -1,40 +1,32 @@
 -- The outcomes of a visit, and a round made of visits.
 use mathlib.Core.Path.{_≡_, refl, sym, _∙_, ap}
 use mathlib.Core.Bool.{Bool, true, false}
-use mathlib.Core.Logic.{_⊎_, inl, inr, ⊎-elim}
+use mathlib.Core.Logic.{⊎-elim}
 use mathlib.Core.List.{List}
 use Prim.Native.Nat.{ℕ, _+_, _≤_, _<_}
 use native.Mathlib.Nat.{eq-or-lt-of-le}
 use native.Mathlib.Omega.{arith}
-use lib.Dec.{eqb}
 use lib.ListN.{length, getD, set, length-set}
 use lib.Seq.{getD-set-same, getD-set-other}
-use borrow.Author.Tests.{eqb-true, eqb-false}
+use Rattle.base.proofs.CaseLaws.{same-or-other}
 use Rattle.solve_classes.specs.Table.{class}
 use Rattle.store.specs.Views.{kindAt, arityAt, childAt}
 use Rattle.store.specs.declared.Terms.{Terms}
 use Rattle.solve_trace.specs.Nodes.{Nodes, IsFunctor, Alike, Formed}
 use Rattle.solve_trace.specs.Steps.{TraceFits, Extends, PairsJoined, Places}
-use Rattle.solve_closure.specs.Rounds.{Clashing, Agree, Meeting, Pair, Meets, variable, first, further, Round, Rounds}
+use Rattle.solve_closure.specs.Rounds.{Clashing, Agree, Meeting, Pair, noHead, Meets, variable, first, further, Round, Rounds}
 use Rattle.solve_trace.proofs.StepLaws.{extends-none, extends-more, extends-only}
 use Rattle.solve_trace.proofs.ReasonLaws.{by-place}
 
-equal-or-not : (a b : ℕ) → (a ≡ b) ⊎ (a ≡ b → ⊥)
-equal-or-not a b = go (eqb a b) refl
-  where
-    go : (t : Bool) → eqb a b ≡ t → (a ≡ b) ⊎ (a ≡ b → ⊥)
-    go true e = inl (eqb-true a b e)
-    go false e = inr (eqb-false a b e)
-
--- head has, for a class number, 64 or a functor node of that class
+-- head has, for a class number, `noHead` or a functor node of that class
 pub record Heads (g : Terms) (t head : List ℕ) : Type 0 where
   pub size : length head ≡ 64
-  pub functor : (i : ℕ) → i < 64 → getD head i 0 < 64 → IsFunctor g (getD head i 0)
-  pub inside : (i : ℕ) → i < 64 → getD head i 0 < 64 → class t (getD head i 0) ≡ class t i
+  pub functor : (i : ℕ) → i < 64 → getD head i 0 < noHead → IsFunctor g (getD head i 0)
+  pub inside : (i : ℕ) → i < 64 → getD head i 0 < noHead → class t (getD head i 0) ≡ class t i
 
 -- u agrees with the head of its class
 pub record Headed (g : Terms) (t head : List ℕ) (u : ℕ) : Type 0 where
-  pub found : getD head (class t u) 0 < 64
+  pub found : getD head (class t u) 0 < noHead
   pub agree : Agree g t u (getD head (class t u) 0)
 
 -- what a visit asks: heads of classes, and a node
@@ -48,7 +40,7 @@ pub record Visiting (g : Terms) (u : ℕ) (t tr : List ℕ) (n : ℕ) (head : Li
 pub record Visit (g : Terms) (u : ℕ) (t tr : List ℕ) (n : ℕ) (head r ts : List ℕ) (m : ℕ) (next : List ℕ) (clash : Bool) (x y : ℕ) : Type 0 where
   pub extends : Extends (Nodes g) t tr n r ts m
   pub heads : Heads g r next
-  pub keeps : (i : ℕ) → i < 64 → getD head i 0 < 64 → getD next i 0 ≡ getD head i 0
+  pub keeps : (i : ℕ) → i < 64 → getD head i 0 < noHead → getD next i 0 ≡ getD head i 0
   pub clashes : clash ≡ true → Clashing g r x y
   pub agrees : clash ≡ false → m ≡ n → IsFunctor g u → Headed g t next u
 
@@ -93,7 +85,7 @@ module _ (g : Terms) (u : ℕ) (t tr : List ℕ) (n : ℕ) (head : List ℕ) (A 
       }
 
   -- the first functor node of its class becomes the head
-  become-head : (x y : ℕ) → kindAt g u ≡ 1 → 64 ≤ getD head (class t u) 0 → Visit g u t tr n head t tr n (set head (class t u) u) false x y
+  become-head : (x y : ℕ) → kindAt g u ≡ 1 → noHead ≤ getD head (class t u) 0 → Visit g u t tr n head t tr n (set head (class t u) u) false x y
   become-head x y k l =
       record {
         extends = extends-none (Nodes g) t tr n (A .ready);
@@ -103,16 +95,16 @@ module _ (g : Terms) (u : ℕ) (t tr : List ℕ) (n : ℕ) (head : List ℕ) (A 
               functor = λ i h q. ⊎-elim
                   (λ e. rw (now-u i e) (record { known = A .known; kind = k }))
                   (λ d. rw (as-was i d) (A .heads .functor i h (rw (as-was i d) at q)))
-                  (equal-or-not (class t u) i);
+                  (same-or-other i (class t u));
               inside = λ i h q. ⊎-elim
                   (λ e. ap (class t) (now-u i e) ∙ sym (A .ready .table .fixed u below) ∙ ap (class t) e)
                   (λ d. ap (class t) (as-was i d) ∙ A .heads .inside i h (rw (as-was i d) at q))
-                  (equal-or-not (class t u) i);
+                  (same-or-other i (class t u));
             };
         keeps = λ i h q. ⊎-elim
             (λ e. absurd (omega (arith, ap (λ (j : ℕ). getD head j 0) e)))
             (λ d. as-was i d)
-            (equal-or-not (class t u) i);
+            (same-or-other i (class t u));
         clashes = λ q. absurd (let z : _≡_ {A = ℕ} 0 1 = cc in omega arith);
         agrees = λ q e Fu.
             record {
@@ -127,25 +119,25 @@ module _ (g : Terms) (u : ℕ) (t tr : List ℕ) (n : ℕ) (head : List ℕ) (A 
       as-was : (i : ℕ) → (class t u ≡ i → ⊥) → getD (set head (class t u) u) i 0 ≡ getD head i 0
       as-was i d = getD-set-other head (class t u) i u 0 (λ q. d (sym q))
 
-  -- c is the class of u, and v the head that u meets, or 64
+  -- c is the class of u, and v the head that u meets, or `noHead`
   module _ {c v : ℕ} {next : List ℕ} (of-u : c ≡ class t u) (M : Meets head c u (kindAt g u) next v) where
-    pub visit-idle : (x y : ℕ) → 64 ≤ v → Visit g u t tr n head t tr n next false x y
+    pub visit-idle : (x y : ℕ) → noHead ≤ v → Visit g u t tr n head t tr n next false x y
     visit-idle x y l = go M l
       where
-        go : {next : List ℕ} {v : ℕ} → Meets head c u (kindAt g u) next v → 64 ≤ v → Visit g u t tr n head t tr n next false x y
+        go : {next : List ℕ} {v : ℕ} → Meets head c u (kindAt g u) next v → noHead ≤ v → Visit g u t tr n head t tr n next false x y
         go (variable d) l = visit-variable x y d
         go (first k e) l = rw of-u (become-head x y k (rw of-u at e))
         go (further k e) l = absurd (omega arith)
 
-    met : v < 64 → (kindAt g u ≡ 1) × ((next ≡ head) × (v ≡ getD head (class t u) 0))
+    met : v < noHead → (kindAt g u ≡ 1) × ((next ≡ head) × (v ≡ getD head (class t u) 0))
     met hv = go M hv
       where
-        go : {next : List ℕ} {v : ℕ} → Meets head c u (kindAt g u) next v → v < 64 → (kindAt g u ≡ 1) × ((next ≡ head) × (v ≡ getD head (class t u) 0))
+        go : {next : List ℕ} {v : ℕ} → Meets head c u (kindAt g u) next v → v < noHead → (kindAt g u ≡ 1) × ((next ≡ head) × (v ≡ getD head (class t u) 0))
         go (variable d) l = absurd (omega arith)
         go (first k e) l = absurd (omega arith)
         go (further k e) l = (k, (refl, rw of-u))
 
-    pub meeting : v < 64 → Meeting g u v t tr n
+    pub meeting : v < noHead → Meeting g u v t tr n
     meeting hv =
         let is = met hv .1 .1 in
         record {
@@ -156,7 +148,7 @@ module _ (g : Terms) (u : ℕ) (t tr : List ℕ) (n : ℕ) (head : List ℕ) (A 
           joined = sym (A .ready .table .fixed u below) ∙ sym (ap (class t) is ∙ A .heads .inside (class t u) own (omega (arith, is)));
         }
 
-    pub visit-pair : {r ts : List ℕ} {m : ℕ} {clash : Bool} {x y : ℕ} → v < 64 → Pair g u v t tr n r ts m clash → (x ≡ u) × (y ≡ v) → Visit g u t tr n head r ts m next clash x y
+    pub visit-pair : {r ts : List ℕ} {m : ℕ} {clash : Bool} {x y : ℕ} → v < noHead → Pair g u v t tr n r ts m clash → (x ≡ u) × (y ≡ v) → Visit g u t tr n head r ts m next clash x y
     visit-pair hv P e =
         let N = meeting hv in
         let is = met hv .1 .1 in
@@ -180,7 +172,7 @@ pub passed-visiting : {g : Terms} {t tr : List ℕ} {n : ℕ} {r ts : List ℕ} 
 passed-visiting i j h F P = record { ready = P .extends .ready; formed = F; heads = P .heads; known = h }
 
 module _ (g : Terms) (t tr : List ℕ) (n : ℕ) where
-  pub passed-none : (head : List ℕ) → TraceFits t tr n → length head ≡ 64 → ((i : ℕ) → i < 64 → getD head i 0 ≡ 64) → Passed g t tr n (g .count) t tr n head
+  pub passed-none : (head : List ℕ) → TraceFits t tr n → length head ≡ 64 → ((i : ℕ) → i < 64 → getD head i 0 ≡ noHead) → Passed g t tr n (g .count) t tr n head
   passed-none head R l e =
       record {
         extends = extends-none (Nodes g) t tr n R;

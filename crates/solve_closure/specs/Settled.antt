@@ -10,6 +10,7 @@ use mathlib.Core.Bool.{Bool, true, false}
 use mathlib.Core.List.{List}
 use Prim.Native.Nat.{ℕ, _≤_, _<_}
 use lib.ListN.{length, getD, take}
+use Rattle.graph.specs.Limits.{equationLimit}
 use Rattle.graph.specs.State.{Equation, State, Held, Proper}
 use Rattle.graph.specs.Closure.{Clash}
 use Rattle.solve_classes.specs.Table.{class}
@@ -22,7 +23,7 @@ use Rattle.solve_closure.specs.Rounds.{Clashing}
 
 pub record Given (g : Terms) (m : ℕ) (left right : List ℕ) : Type 0 where
   pub formed : Formed g
-  pub most : m ≤ 256
+  pub most : m ≤ equationLimit
   pub lefts : (k : ℕ) → k < m → getD left k 0 < g .count
   pub rights : (k : ℕ) → k < m → getD right k 0 < g .count
 
@@ -46,7 +47,7 @@ pub record Settled (g : Terms) (s : State) (t tr : List ℕ) (n : ℕ) (clash : 
 pub record OfferFits (g : Terms) (m x y : ℕ) (t tr : List ℕ) (n : ℕ) : Type 0 where
   pub formed : Formed g
   pub ready : TraceFits t tr n
-  pub most : m ≤ 256
+  pub most : m ≤ equationLimit
   pub left : x < g .count
   pub right : y < g .count
 

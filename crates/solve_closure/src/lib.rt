@@ -57,15 +57,7 @@ fn pair<'a>(
             right: v,
         };
     }
-    let p = solve_trace::join_children(
-        table,
-        trace,
-        steps,
-        u,
-        v,
-        solve_trace::wide(arity[u]),
-        child,
-    );
+    let p = solve_trace::join_children(table, trace, steps, u, v, base::wide(arity[u]), child);
     let t = p.table;
     Settling {
         table: t,
@@ -76,20 +68,23 @@ fn pair<'a>(
     }
 }
 
-// The head of class `c` that the functor node `u` meets. Where there is none yet, `u` becomes it; then, and for a variable, 64.
-fn visit(head: &mut [u8; 64], c: usize, u: usize, kind: u8) -> usize
+// Stands for the head of a class that has none.
+const NO_HEAD: u8 = 64;
+
+// The head of class `c` that the functor node `u` meets. Where there is none yet, `u` becomes it, and none is met; nor by a variable.
+fn visit(head: &mut [u8; 64], c: usize, u: usize, kind: u8) -> u8
     requires { ⌜ (length (now head) ≡ 64) × (c < 64) × (u < 64) ⌝ }
     ensures { λ r. ⌜ Meets (now (head .entry)) c u kind (now (head .exit)) r ⌝ }
 {
     if kind != 1 {
-        return 64;
+        return NO_HEAD;
     }
-    let v = solve_trace::wide(head[c]);
-    if v < 64 {
+    let v = head[c];
+    if v < NO_HEAD {
         return v;
     }
     head[c] = u as u8;
-    64
+    NO_HEAD
 }
 
 // One round, from the highest node down. A head is kept for each class number from here on.
@@ -110,16 +105,16 @@ fn round<'a>(
     ensures { λ g r. ⌜ Round g
         table (now (trace .entry)) steps (r .table) (now (trace .exit)) (r .steps) (r .clash) (r .left) (r .right) ⌝ }
 {
-    let mut head = [64u8; 64];
+    let mut head = [NO_HEAD; 64];
     let mut t = table;
     let mut k = steps;
     let mut i = n;
     while 0 < i {
         i -= 1;
-        let c = solve_trace::wide(t[i]);
+        let c = base::wide(t[i]);
         let v = visit(&mut head, c, i, kind[i]);
-        if v < 64 {
-            let o = pair(t, trace, k, i, v, n, kind, symbol, arity, child);
+        if v < NO_HEAD {
+            let o = pair(t, trace, k, i, base::wide(v), n, kind, symbol, arity, child);
             if o.clash {
                 return o;
             }

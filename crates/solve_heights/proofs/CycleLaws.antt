@@ -7,7 +7,7 @@ use native.Mathlib.Nat.{le-of-suc-le-suc, eq-or-lt-of-le}
 use native.Mathlib.Omega.{arith}
 use Rattle.graph.specs.State.{State}
 use Rattle.graph.specs.Closure.{Below, below-below, Cycle}
-use Rattle.solve_heights.proofs.CountLaws.{equal-or-not}
+use Rattle.base.proofs.CaseLaws.{same-or-other}
 
 -- a node of P below x, or a cycle
 abbrev pub Next : State → (ℕ → Type 0) → ℕ → Type 0
@@ -26,14 +26,14 @@ module _ (s : State) where
           ⊎-elim
           (λ d. inl (closes y z (e ∙ sym d) c))
           (λ d. inr (z, ((q, d), below-below b c)))
-          (equal-or-not z k)
+          (same-or-other k z)
 
       first : (y : ℕ) → P y → Below s x y → Next s (λ y. P y × (y ≡ k → ⊥)) x
       first y q b =
           ⊎-elim
           (λ e. ⊎-elim (λ c. inl c) (λ n. second y e b (n .0) (n .1 .0) (n .1 .1)) (step y q))
           (λ d. inr (y, ((q, d), b)))
-          (equal-or-not y k)
+          (same-or-other k y)
 
   pub cycle-among : (n : ℕ) (P : ℕ → Type 0) → ((x : ℕ) → P x → x < n) → ((x : ℕ) → P x → Next s P x) → (x : ℕ) → P x → Cycle s
   cycle-among zero P bound step x p = absurd (omega (arith, bound x p))

@@ -1,6 +1,6 @@
 -- What the peel says of a state whose closure the table is: a solution where nothing is left, else a cycle; and a node below itself is
 -- in a class that is left.
-use mathlib.Core.Path.{_≡_, refl, sym, _∙_, ap}
+use mathlib.Core.Path.{_≡_, sym, _∙_, ap}
 use mathlib.Core.Logic.{inr, ⊎-elim}
 use mathlib.Core.List.{List}
 use Prim.Native.Nat.{ℕ, _<_}
@@ -14,12 +14,12 @@ use Rattle.store.specs.declared.Terms.{Terms}
 use Rattle.store.proofs.ViewLaws.{child-found, child-known}
 use Rattle.solve_classes.specs.Table.{class, Table}
 use Rattle.solve_classes.specs.Exact.{Exact}
+use Rattle.base.proofs.CaseLaws.{same-or-other}
 use Rattle.base.proofs.SumLaws.{sum-some}
 use Rattle.solve_trace.specs.Nodes.{Nodes, IsFunctor, Formed}
 use Rattle.solve_trace.proofs.NodeLaws.{functor-found, functor-known, known}
-use Rattle.solve_heights.specs.Peel.{heightAt, leftAt, Peeled}
-use Rattle.solve_heights.proofs.CountLaws.{equal-or-not}
-use Rattle.solve_heights.proofs.PeelLaws.{left-gone, left-other, classes-most, class-low, is-class, none-left}
+use Rattle.solve_heights.specs.Peel.{noHeight, heightAt, leftAt, Peeled}
+use Rattle.solve_heights.proofs.SummandLaws.{left-gone, left-other, classes-most, class-low, is-class, none-left}
 use Rattle.solve_heights.proofs.CycleLaws.{Next, cycle-among}
 
 -- a child of the state, read off the arrays
@@ -42,23 +42,14 @@ module _ (g : Terms) (s : State) (t h : List ℕ) (n : ℕ) (T : Table t) (F : F
         level = λ u v hu hv q. ap (heightAt h) (sym (E .table u) ∙ q ∙ E .table v);
         lower = λ u f i v cs m c.
             let K = child-under g s N u f i v cs m c in
-            let d : heightOf u ≡ 255 → ⊥ = none-left g t h (omega (arith, z, P .count)) (class t u) (is-class g t T F u (K .0 .known)) in
+            let d : heightOf u ≡ noHeight → ⊥ = none-left g t h (omega (arith, z, P .count)) (class t u) (is-class g t T F u (K .0 .known)) in
             rw (← K .1 .1) (P .lower u i (K .0) (K .1 .0) d);
       }
-
-  -- its classes are the table's, its heights those of the peel
-  pub solution-class : (z : n ≡ 0) (u : ℕ) → solution z .classes .class u ≡ class t u
-  unfolding solution
-  solution-class z u = E .table u
-
-  pub solution-height : (z : n ≡ 0) (u : ℕ) → solution z .height u ≡ heightAt h (class t u)
-  unfolding solution
-  solution-height z u = refl
 
   -- nodes of classes that are left
   record Left (x : ℕ) : Type 0 where
     node : x < g .count
-    stays : heightAt h (class t x) ≡ 255
+    stays : heightAt h (class t x) ≡ noHeight
 
   below : (x : ℕ) → Left x → Next s Left x
   below x L =
@@ -86,13 +77,13 @@ module _ (g : Terms) (s : State) (t h : List ℕ) (n : ℕ) (T : Table t) (F : F
       ⊎-elim
       (λ q. cycle-among s (g .count) Left (λ x L. L .node) below c (record { node = W .1 .0; stays = ap (heightAt h) r ∙ q }))
       (λ q. absurd (omega (arith, W .1 .1, left-gone t h c q)))
-      (equal-or-not (heightAt h c) 255))
+      (same-or-other noHeight (heightAt h c)))
       (λ r. absurd (omega (arith, W .1 .1, left-other t h c r)))
-      (equal-or-not (class t c) c)
+      (same-or-other c (class t c))
 
   -- down from a class that went all classes went, at lower heights
   Falls : ℕ → ℕ → Type 0
-  Falls u v = (heightOf u ≡ 255 → ⊥) → (heightOf v < heightOf u) × (heightOf u < 255)
+  Falls u v = (heightOf u ≡ noHeight → ⊥) → (heightOf v < heightOf u) × (heightOf u < noHeight)
 
   falls : KeepsBelow s Falls
   unfolding Falls
@@ -105,14 +96,14 @@ module _ (g : Terms) (s : State) (t h : List ℕ) (n : ℕ) (T : Table t) (F : F
     by-below-below = λ u v w p q d. (omega (arith, p d, q (λ z. omega (arith, z, p d))), p d .1);
   }
     where
-      small : (u : ℕ) → u < g .count → (heightOf u ≡ 255 → ⊥) → heightOf u < 255
+      small : (u : ℕ) → u < g .count → (heightOf u ≡ noHeight → ⊥) → heightOf u < noHeight
       small u l d = omega (arith, P .low (class t u) (class-low g t T F u l) d, classes-most g t, F .most)
 
       same-first : (u v w : ℕ) → class t u ≡ class t v → Falls v w → Falls u w
       same-first u v w e q d = rw e (q (λ z. d (rw e z)))
 
   -- a node below itself is in a class that is left
-  pub cycle-left : (u : ℕ) → Below s u u → heightAt h (class t u) ≡ 255
+  pub cycle-left : (u : ℕ) → Below s u u → heightAt h (class t u) ≡ noHeight
   unfolding Falls
   cycle-left u b =
-      ⊎-elim (λ e. e) (λ d. absurd (omega (arith, below-least s Falls falls b d .0))) (equal-or-not (heightOf u) 255)
+      ⊎-elim (λ e. e) (λ d. absurd (omega (arith, below-least s Falls falls b d .0))) (same-or-other noHeight (heightOf u))

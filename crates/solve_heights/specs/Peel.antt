@@ -1,9 +1,13 @@
 -- Heights of classes, found by peeling: a class goes once every child of every functor node in it lies in a class that went before.
--- Its height is the number of classes that went before it; 255 while it is left.
---   Stuck    a functor node with a child in a class that is left
---   Blocked  a class with such a node
---   left     how many classes are left
---   Peeled   what the peel gives: heights that rise from child to parent, and what is left is blocked by what is left
+-- Its height is the number of classes that went before it; while it is left it has none.
+--   noHeight  stands for the height of a class that has none
+--   heightAt  the height of a class number
+--   classes   how many classes the known nodes have
+--   left      how many of them are left
+--   Lower     heights rise from child to parent
+--   Stuck     a functor node with a child in a class that is left
+--   Blocked   a class with such a node
+--   Peeled    what the peel gives: heights that rise, and what is left is blocked by what is left
 use mathlib.Core.Path.{_≡_}
 use mathlib.Core.Bool.{cond}
 use mathlib.Core.List.{List}
@@ -17,13 +21,16 @@ use Rattle.base.specs.Sum.{sumTo}
 use Rattle.solve_trace.specs.Nodes.{IsFunctor}
 use Rattle.solve_heights.specs.Nodes.{IsClass, under}
 
+abbrev pub noHeight : ℕ
+noHeight = 255
+
 -- the height of a class number
 abbrev pub heightAt : List ℕ → ℕ → ℕ
 heightAt h c = getD h c 0
 
 -- 1 where c is a class that is left
 abbrev pub leftAt : List ℕ → List ℕ → ℕ → ℕ
-leftAt t h c = cond (eqb (class t c) c) (cond (eqb (heightAt h c) 255) 1 0) 0
+leftAt t h c = cond (eqb (class t c) c) (cond (eqb (heightAt h c) noHeight) 1 0) 0
 
 abbrev pub left : Terms → List ℕ → List ℕ → ℕ
 left g t h = sumTo (leftAt t h) (g .count)
@@ -36,7 +43,7 @@ pub record Stuck (g : Terms) (t h : List ℕ) (u : ℕ) : Type 0 where
   pub functor : IsFunctor g u
   pub place : ℕ
   pub within : place < arityAt g u
-  pub stays : heightAt h (under g t u place) ≡ 255
+  pub stays : heightAt h (under g t u place) ≡ noHeight
 
 pub record Blocked (g : Terms) (t h : List ℕ) (c : ℕ) : Type 0 where
   pub node : ℕ
@@ -46,14 +53,14 @@ pub record Blocked (g : Terms) (t h : List ℕ) (c : ℕ) : Type 0 where
 -- a child's class is lower than the class of its parent, where that one went
 abbrev pub Lower : Terms → List ℕ → List ℕ → Type 0
 Lower g t h =
-    (u j : ℕ) → IsFunctor g u → j < arityAt g u → (heightAt h (class t u) ≡ 255 → ⊥) → heightAt h (under g t u j) < heightAt h (class t u)
+    (u j : ℕ) → IsFunctor g u → j < arityAt g u → (heightAt h (class t u) ≡ noHeight → ⊥) → heightAt h (under g t u j) < heightAt h (class t u)
 
 -- n classes are left. The heights of those that went are the numbers from 0 on, each once
 pub record Peeled (g : Terms) (t h : List ℕ) (n : ℕ) : Type 0 where
   pub size : length h ≡ 64
   pub count : n ≡ left g t h
-  pub low : (c : ℕ) → c < 64 → (heightAt h c ≡ 255 → ⊥) → heightAt h c + n < classes g t
-  pub apart : (c d : ℕ) → c < 64 → d < 64 → (heightAt h c ≡ 255 → ⊥) → heightAt h c ≡ heightAt h d → c ≡ d
-  pub unused : (c : ℕ) → c < 64 → (IsClass g t c → ⊥) → heightAt h c ≡ 255
+  pub low : (c : ℕ) → c < 64 → (heightAt h c ≡ noHeight → ⊥) → heightAt h c + n < classes g t
+  pub apart : (c d : ℕ) → c < 64 → d < 64 → (heightAt h c ≡ noHeight → ⊥) → heightAt h c ≡ heightAt h d → c ≡ d
+  pub unused : (c : ℕ) → c < 64 → (IsClass g t c → ⊥) → heightAt h c ≡ noHeight
   pub lower : Lower g t h
-  pub stuck : (c : ℕ) → IsClass g t c → heightAt h c ≡ 255 → Blocked g t h c
+  pub stuck : (c : ℕ) → IsClass g t c → heightAt h c ≡ noHeight → Blocked g t h c

@@ -2,12 +2,17 @@
 ghost use mathlib.Core.Path.{_≡_};
 ghost use Prim.Native.Nat.{_+_, _≤_, _<_};
 ghost use lib.ListN.{length, replicate};
+ghost use Rattle.base.specs.Tells.{Tells};
+ghost use Rattle.graph.specs.Limits.{nodeLimit};
 ghost use Rattle.solve_classes.specs.Table.{Table};
 ghost use Rattle.store.specs.Views.{terms};
 ghost use Rattle.solve_trace.specs.Nodes.{Formed};
-ghost use Rattle.solve_heights.specs.Peel.{classes, Peeled};
-ghost use Rattle.solve_heights.specs.Passes.{turned, Peeling, Counted, Check, Visiting, Visited, PeelPassed};
+ghost use Rattle.solve_heights.specs.Peel.{classes, Stuck, Peeled};
+ghost use Rattle.solve_heights.specs.Passes.{turned, Peeling, Counted, Visiting, Visited, PeelPassed};
 ghost use Rattle.store.specs.declared.Terms.{Terms};
+
+// Stands for the height of a class that has none: one that is left.
+const NO_HEIGHT: u8 = 255;
 
 // The node that a pass over `n` nodes visits at its turn `i`.
 pub fn turn(n: usize, down: bool, i: usize) -> usize
@@ -37,17 +42,17 @@ fn stuck(
     requires { λ g. ⌜ Formed g ⌝ }
     requires { λ g. ⌜ u < n ⌝ }
     requires { λ g. ⌜ length (now height) ≡ 64 ⌝ }
-    ensures { λ g r. ⌜ Check g (now (table .entry)) (now (height .entry)) u r ⌝ }
+    ensures { λ g r. ⌜ Tells (Stuck g (now (table .entry)) (now (height .entry)) u) r ⌝ }
 {
     if kind[u] != 1 {
         return false;
     }
-    let k = solve_trace::wide(arity[u]);
+    let k = base::wide(arity[u]);
     let mut j: usize = 0;
     while j < k {
-        let x = solve_trace::wide(child[4 * u + j]);
-        let c = solve_trace::wide(table[x]);
-        if height[c] == 255 {
+        let x = base::wide(child[4 * u + j]);
+        let c = base::wide(table[x]);
+        if height[c] == NO_HEIGHT {
             return true;
         }
         j += 1;
@@ -81,7 +86,7 @@ fn visit(
     if stuck(table, height, u, n, kind, symbol, arity, child) {
         return went;
     }
-    let c = solve_trace::wide(table[u]);
+    let c = base::wide(table[u]);
     pending[u] = 0;
     let rest = waiting[c] - 1;
     waiting[c] = rest;
@@ -139,14 +144,14 @@ fn pass(
 // Counts the nodes of each class, and the classes.
 fn count(table: &[u8; 64], n: usize, waiting: &mut [u8; 64]) -> u8
     requires { ⌜ Table (now table) ⌝ }
-    requires { ⌜ n ≤ 64 ⌝ }
+    requires { ⌜ n ≤ nodeLimit ⌝ }
     requires { ⌜ now waiting ≡ replicate 64 0 ⌝ }
     ensures { λ r. ⌜ Counted (now (table .entry)) n (now (waiting .exit)) r ⌝ }
 {
     let mut total: u8 = 0;
     let mut u: usize = 0;
     while u < n {
-        let c = solve_trace::wide(table[u]);
+        let c = base::wide(table[u]);
         waiting[c] += 1;
         if c == u {
             total += 1;
@@ -202,7 +207,7 @@ fn rounds(
     0
 }
 
-// The heights of the classes, 255 for those that are left, and how many are left.
+// The heights of the classes, `NO_HEIGHT` for those that are left, and how many are left.
 pub struct Heights {
     pub height: [u8; 64],
     pub left: u8,
@@ -222,7 +227,7 @@ pub fn peel(
     requires { λ g. ⌜ Formed g ⌝ }
     ensures { λ g r. ⌜ Peeled g table (r .height) (r .left) ⌝ }
 {
-    let mut height = [255u8; 64];
+    let mut height = [NO_HEIGHT; 64];
     let mut pending = [1u8; 64];
     let mut waiting = [0u8; 64];
     let total = count(&table, n, &mut waiting);

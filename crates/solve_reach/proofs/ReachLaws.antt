@@ -18,8 +18,9 @@ use Rattle.base.proofs.SumLaws.{sum-most}
 use Rattle.solve_trace.specs.Nodes.{IsFunctor, Formed}
 use Rattle.solve_heights.specs.Nodes.{under}
 use Rattle.solve_heights.specs.Passes.{turned}
-use Rattle.solve_heights.proofs.CountLaws.{equal-or-not, sum-one}
-use Rattle.solve_heights.proofs.PeelLaws.{turned-low, turned-back}
+use Rattle.base.proofs.CaseLaws.{same-or-other}
+use Rattle.solve_heights.proofs.CountLaws.{sum-one}
+use Rattle.solve_heights.proofs.PassLaws.{turned-low, turned-back}
 use Rattle.solve_reach.specs.Reach.{Onward, Ways}
 use Rattle.solve_reach.specs.Search.{Source, Step, StepsDown, Explored, Reached, reachedAt, Reaching, Entered, before, now, Grown, Expanding, Expanded, SearchPassed}
 
@@ -37,7 +38,7 @@ reached-same level next d e = rw e
 reached-most : (level : List ℕ) → sumTo (reachedAt level) 64 ≤ 64
 reached-most level =
     sum-most (reachedAt level) 64
-    (λ d l. ⊎-elim (λ e. omega (arith, reached-none level d e)) (λ n. omega (arith, reached-one level d n)) (equal-or-not (getD level d 0) 0))
+    (λ d l. ⊎-elim (λ e. omega (arith, reached-none level d e)) (λ n. omega (arith, reached-one level d n)) (same-or-other 0 (getD level d 0)))
 
 -- ---- the reached classes get more
 
@@ -128,7 +129,7 @@ module _ (g : Terms) (t : List ℕ) (u : ℕ) where
         ⊎-elim
         (λ q. omega (arith, at-new l x s, h, ap (λ (z : ℕ). getD (set l d x) z 0) q))
         (λ n. omega (arith, at-old l x e n, all e m))
-        (equal-or-not e d)
+        (same-or-other d e)
 
     -- an array that is zero where the level is, with a number stored at d
     stays-zero : (l : List ℕ) (x : ℕ) → ((e : ℕ) → e < 64 → getD level e 0 ≡ 0 → getD l e 0 ≡ 0)
@@ -137,7 +138,7 @@ module _ (g : Terms) (t : List ℕ) (u : ℕ) where
         ⊎-elim
         (λ q. absurd (omega (arith, z, level-new, ap (λ (z : ℕ). getD next z 0) q)))
         (λ n. at-old l x e n ∙ all e m (sym (level-old e n) ∙ z))
-        (equal-or-not e d)
+        (same-or-other d e)
 
     ways : Ways t (set parent d p) (set into d k) next u
     ways =
@@ -147,13 +148,13 @@ module _ (g : Terms) (t : List ℕ) (u : ℕ) where
           top = λ e m. ⊎-elim
               (λ q. omega (arith, count, reached-most next, level-new, ap (λ (z : ℕ). getD next z 0) q))
               (λ n. omega (arith, level-old e n, R .ways .top e m))
-              (equal-or-not e d);
+              (same-or-other d e);
           onward = λ e m h. ⊎-elim
               (λ q. rw q (rw (at-new parent p (R .parent-size), level-new) first))
               (λ n.
               rw (at-old parent p e n, level-old e n)
               (onward-old (getD parent e 0) (getD level e 0 - 1) (R .ways .onward e m (omega (arith, h, level-old e n)))))
-              (equal-or-not e d);
+              (same-or-other d e);
         }
       where
         first : Onward t next u p (r + 1 - 1)
@@ -164,7 +165,7 @@ module _ (g : Terms) (t : List ℕ) (u : ℕ) where
         ⊎-elim
         (λ q. rw q (rw (at-new parent p (R .parent-size), at-new place i (R .place-size), at-new into k (R .into-size)) S))
         (λ n. rw (at-old parent p e n, at-old place i e n, at-old into k e n) (R .steps e m (omega (arith, h, level-old e n))))
-        (equal-or-not e d)
+        (same-or-other d e)
 
     pub step-new : Reaching g t (set parent d p) (set place d i) (set into d k) next u (r + 1) × Grown level r next (r + 1)
     step-new = (
@@ -184,7 +185,7 @@ module _ (g : Terms) (t : List ℕ) (u : ℕ) where
         high = λ e m. ⊎-elim
             (λ q. omega (arith, level-new, ap (λ (z : ℕ). getD next z 0) q))
             (λ n. omega (arith, level-old e n, R .high e m))
-            (equal-or-not e d);
+            (same-or-other d e);
         count = count;
       },
       grown,

@@ -20,7 +20,7 @@ use Rattle.solve_classes.specs.Exact.{Exact}
 use Rattle.solve_trace.specs.Nodes.{Nodes, IsFunctor, Formed}
 use Rattle.solve_trace.proofs.NodeLaws.{functor-found, known}
 use Rattle.base.proofs.CaseLaws.{same-or-other}
-use Rattle.solve_heights.proofs.PeelLaws.{class-low}
+use Rattle.solve_heights.proofs.SummandLaws.{class-low}
 use Rattle.solve_heights.specs.Peel.{heightAt, Peeled}
 use Rattle.solve_heights.proofs.OutcomeLaws.{child-under, cycle-left}
 use Rattle.solve_reach.specs.Reach.{levelOf, Edge, Searched}

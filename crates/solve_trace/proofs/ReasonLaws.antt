@@ -10,7 +10,8 @@ use Rattle.store.specs.Views.{arityAt, childAt}
 use Rattle.store.specs.declared.Terms.{Terms}
 use Rattle.store.proofs.ViewLaws.{children-length, child-found}
 use Rattle.solve_trace.specs.Nodes.{Nodes, IsFunctor, Alike, EquationEnds}
-use Rattle.solve_trace.specs.Trace.{byPlace, Reason, equation, down}
+use Rattle.solve_trace.specs.Packing.{entryOf}
+use Rattle.solve_trace.specs.Trace.{Reason, equation, down}
 use Rattle.solve_trace.proofs.NodeLaws.{functor-found}
 
 -- the entry e is the reason d
@@ -21,7 +22,7 @@ pub by-equation : (m : ℕ) (left right t : List ℕ) (s : State) (k : ℕ) → 
 by-equation m left right t s k h E = rw (← E .lefts k h, ← E .rights k h) (equation k (E .found k h))
 
 pub by-place : (g : Terms) (t : List ℕ) (s : State) (u v j : ℕ) → Nodes g s → IsFunctor g u → IsFunctor g v → Alike g u v → class t u ≡ class t v
-    → j < arityAt g u → Reason s t (byPlace u v j) (childAt g u j) (childAt g v j)
+    → j < arityAt g u → Reason s t (entryOf u v j) (childAt g u j) (childAt g v j)
 by-place g t s u v j N Fu Fv A e h =
     down u v j e (functor-found g s N u Fu) (functor-found g s N v Fv)
     (A .0, children-length g u ∙ A .1 ∙ sym (children-length g v))

@@ -11,6 +11,7 @@ use lib.Seq.{take-append-le, take-at}
 use Rattle.graph.specs.State.{functor, Equation, State, NodeAt, ChildAt, Proper}
 use Rattle.base.proofs.ListLaws.{found-lt}
 use Rattle.solve_classes.specs.Table.{class}
+use Rattle.solve_trace.specs.Packing.{placeBase}
 use Rattle.solve_trace.specs.Trace.{Reason, equation, down, Traced, start, merge}
 use Rattle.solve_trace.proofs.TraceLaws.{reason-known}
 
@@ -18,7 +19,7 @@ use Rattle.solve_trace.proofs.TraceLaws.{reason-known}
 pub last-length : (es : List ℕ) (e : ℕ) → length (es ++ (e ∷ [])) ≡ suc (length es)
 last-length es e = omega (arith, length-append es (e ∷ []))
 
-pub last-at : (es : List ℕ) (e : ℕ) → getD (es ++ (e ∷ [])) (length es) 0 ≡ e
+last-at : (es : List ℕ) (e : ℕ) → getD (es ++ (e ∷ [])) (length es) 0 ≡ e
 last-at [] e = refl
 last-at (x ∷ xs) e = last-at xs e
 
@@ -29,9 +30,9 @@ last-same es ds e d q =
       sym (last-at es e) ∙ ap (λ (l : List ℕ). getD l (length es) 0) q ∙ ap (λ (k : ℕ). getD (ds ++ (d ∷ [])) k 0) n ∙ last-at ds d,
     )
 
-module _ (s : State) (P : Proper s) (fits : length (s .nodes) ≤ 64) (few : length (s .equations) ≤ 4096) where
+module _ (s : State) (P : Proper s) (fits : length (s .nodes) ≤ 64) (few : length (s .equations) ≤ placeBase) where
   -- an entry says which nodes it joins
-  pub reason-ends : {t r : List ℕ} {e d x y u v : ℕ} → Reason s t e x y → Reason s r d u v → e ≡ d → (x ≡ u) × (y ≡ v)
+  reason-ends : {t r : List ℕ} {e d x y u v : ℕ} → Reason s t e x y → Reason s r d u v → e ≡ d → (x ≡ u) × (y ≡ v)
   reason-ends (equation {e = a} k h) (equation {e = b} j i) q =
       let z : some a ≡ some b = sym h ∙ ap (getElem? (s .equations)) q ∙ i in
       let w : a ≡ b = cc in

@@ -1,5 +1,5 @@
 -- Steps of the solver put together: no step, one more step, one join.
-use mathlib.Core.Path.{_≡_, refl, _∙_}
+use mathlib.Core.Path.{_≡_, refl, _∙_, ap}
 use mathlib.Core.Logic.{inl, inr}
 use mathlib.Core.List.{List}
 use Prim.Native.Nat.{ℕ, _+_, _≤_, _<_}
@@ -89,10 +89,21 @@ module _ (S : State → Type 0) (left right : ℕ → ℕ) where
             (joins-ends (b .0) (b .1) J);
       }
 
+  -- the same as the code does it: x and y are the ends as it reads them, and their classes, two, are united
+  pub pairs-unite : (k e : ℕ) {x y : ℕ} {t tr : List ℕ} {n : ℕ} {r ts : List ℕ} {m : ℕ} {p : List ℕ}
+      → ((j : ℕ) → j < k + 1 → (left j < 64) × (right j < 64))
+      → ((s : State) → S s → Reason s r e (left k) (right k))
+      → PairsJoined S left right k t tr n r ts m → x ≡ left k → y ≡ right k → (class r x ≡ class r y → ⊥)
+      → ((a b : ℕ) → a < 64 → b < 64 → class r x ≡ class r a → class r y ≡ class r b → Merged r a b p)
+      → PairsJoined S left right (k + 1) t tr n p (set ts m e) (m + 1)
+  pairs-unite k e {r = r} h why P ex ey d unite =
+      let b = h k (omega arith) in
+      pairs-more k e h why P (grown (rw (← ex, ← ey) d) (unite _ _ (b .0) (b .1) (ap (class r) ex) (ap (class r) ey)))
+
   -- the next pair of ends is joined already
-  pub pairs-skip : (k : ℕ) {t tr : List ℕ} {n : ℕ} {r ts : List ℕ} {m : ℕ} → class r (left k) ≡ class r (right k)
-      → PairsJoined S left right k t tr n r ts m → PairsJoined S left right (k + 1) t tr n r ts m
-  pairs-skip k e P = record { extends = P .extends; joined = below-more _ k (P .joined) e }
+  pub pairs-skip : (k : ℕ) {x y : ℕ} {t tr : List ℕ} {n : ℕ} {r ts : List ℕ} {m : ℕ} → PairsJoined S left right k t tr n r ts m
+      → x ≡ left k → y ≡ right k → class r x ≡ class r y → PairsJoined S left right (k + 1) t tr n r ts m
+  pairs-skip k P ex ey e = record { extends = P .extends; joined = below-more _ k (P .joined) (rw (← ex, ← ey) e) }
 
   pub pairs-all : (k l : ℕ) {t tr : List ℕ} {n : ℕ} {r ts : List ℕ} {m : ℕ} → l ≤ k → PairsJoined S left right k t tr n r ts m → PairsJoined S left right l t tr n r ts m
   pairs-all k l h P = record { extends = P .extends; joined = λ j q. P .joined j (omega arith) }

@@ -1,6 +1,6 @@
 -- What the solver asks of nodes and equations in lent arrays. `TermsShape` of store gives `Formed`.
 --   IsFunctor  node u is known, and a functor node
---   Formed     at most 64 nodes of at most 4 children, each child an earlier node
+--   Formed     nodes and children within the limits, each child an earlier node
 --   Alike      equal labels, read off the arrays
 --   EquationEnds       the equations of a state have the ends that two arrays have
 use mathlib.Core.Path.{_≡_}
@@ -8,6 +8,7 @@ use mathlib.Core.List.{List}
 use mathlib.Core.Option.{some}
 use Prim.Native.Nat.{ℕ, _≤_, _<_}
 use lib.ListN.{getD, getElem?}
+use Rattle.graph.specs.Limits.{nodeLimit, childLimit}
 use Rattle.graph.specs.State.{Equation, State, SameLabel}
 use Rattle.store.specs.Views.{kindAt, symbolAt, arityAt, childAt, nodesOf}
 use Rattle.store.specs.declared.Terms.{Terms}
@@ -21,8 +22,8 @@ pub record IsFunctor (g : Terms) (u : ℕ) : Type 0 where
   pub kind : kindAt g u ≡ 1
 
 pub record Formed (g : Terms) : Type 0 where
-  pub most : g .count ≤ 64
-  pub arities : (u : ℕ) → u < g .count → arityAt g u ≤ 4
+  pub most : g .count ≤ nodeLimit
+  pub arities : (u : ℕ) → u < g .count → arityAt g u ≤ childLimit
   pub earlier : (u j : ℕ) → u < g .count → j < arityAt g u → childAt g u j < u
 
 abbrev pub Alike : Terms → ℕ → ℕ → Type 0

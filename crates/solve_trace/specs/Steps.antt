@@ -10,7 +10,8 @@ use Prim.Native.Nat.{ℕ, _+_, _*_, _≤_, _<_}
 use lib.ListN.{length, getD, set, take}
 use Rattle.graph.specs.State.{State}
 use Rattle.solve_classes.specs.Table.{class, Table, Merged, classCount}
-use Rattle.solve_trace.specs.Trace.{byPlace, Reason, Traced}
+use Rattle.solve_trace.specs.Packing.{entryOf}
+use Rattle.solve_trace.specs.Trace.{Reason, Traced}
 
 pub record TraceFits (t tr : List ℕ) (n : ℕ) : Type 0 where
   pub table : Table t
@@ -37,4 +38,4 @@ pub record PairsJoined (S : State → Type 0) (left right : ℕ → ℕ) (k : �
 -- u and v, in one class, are a reason to join their first k children
 abbrev pub Places : List ℕ → ℕ → ℕ → ℕ → State → Type 0
 Places child u v k s =
-    (t : List ℕ) (j : ℕ) → class t u ≡ class t v → j < k → Reason s t (byPlace u v j) (getD child (4 * u + j) 0) (getD child (4 * v + j) 0)
+    (t : List ℕ) (j : ℕ) → class t u ≡ class t v → j < k → Reason s t (entryOf u v j) (getD child (4 * u + j) 0) (getD child (4 * v + j) 0)

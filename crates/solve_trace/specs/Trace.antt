@@ -5,20 +5,17 @@
 use mathlib.Core.Path.{_≡_}
 use mathlib.Core.List.{List, [], _∷_, _++_}
 use mathlib.Core.Option.{some}
-use Prim.Native.Nat.{ℕ, _+_, _*_}
+use Prim.Native.Nat.{ℕ}
 use lib.ListN.{getElem?}
 use Rattle.graph.specs.State.{functor, Equation, State, NodeAt, ChildAt, EqualLabels}
 use Rattle.solve_classes.specs.Table.{class, Fresh, Merged}
-
--- an entry below 4,096 is an equation's place; any other is two nodes and a place, counted from 0
-abbrev pub byPlace : ℕ → ℕ → ℕ → ℕ
-byPlace p q j = (j + 1) * 4096 + p * 64 + q
+use Rattle.solve_trace.specs.Packing.{entryOf}
 
 -- on the table t, the entry is a reason to join x and y
 pub data Reason (s : State) (t : List ℕ) : ℕ → ℕ → ℕ → Type 0 where
   equation : {e : Equation} (k : ℕ) → getElem? (s .equations) k ≡ some e → Reason s t k (e .left) (e .right)
   down : (p q j : ℕ) {f g x y : ℕ} {cs ds : List ℕ} → class t p ≡ class t q → NodeAt s p (functor f cs) → NodeAt s q (functor g ds)
-      → EqualLabels f cs g ds → ChildAt cs j x → ChildAt ds j y → Reason s t (byPlace p q j) x y
+      → EqualLabels f cs g ds → ChildAt cs j x → ChildAt ds j y → Reason s t (entryOf p q j) x y
 
 pub data Traced (s : State) : List ℕ → List ℕ → Type 0 where
   start : {t : List ℕ} → Fresh t → Traced s [] t

@@ -2,7 +2,10 @@
 ghost use mathlib.Core.Path.{_≡_};
 ghost use Prim.Native.Nat.{ℕ, _+_, _*_, _≤_, _<_};
 ghost use lib.ListN.{getD};
+ghost use Rattle.base.specs.Tells.{Tells};
+ghost use Rattle.graph.specs.Limits.{childLimit, equationLimit};
 ghost use Rattle.solve_classes.specs.Table.{class};
+ghost use Rattle.solve_trace.specs.Packing.{nodeBase, placeBase, entryOf, firstOf, secondOf, placeOf};
 ghost use Rattle.solve_trace.specs.Nodes.{EquationEnds};
 ghost use Rattle.solve_trace.specs.Steps.{TraceFits, Joins, PairsJoined, Places};
 
@@ -10,6 +13,45 @@ ghost use Rattle.solve_trace.specs.Steps.{TraceFits, Joins, PairsJoined,
 pub struct Progress {
     pub table: [u8; 64],
     pub steps: usize,
+}
+
+// An entry is written in these bases: see specs/Packing.
+const NODE_BASE: usize = 64;
+
+const PLACE_BASE: usize = 4096;
+
+// The entry of two nodes and a place, counted from 0.
+pub fn entry(place: usize, u: usize, v: usize) -> u16
+    requires { ⌜ (place < childLimit) × ((u < nodeBase) × (v < nodeBase)) ⌝ }
+    ensures { λ r. ⌜ r ≡ entryOf u v place ⌝ }
+{
+    ((place + 1) * PLACE_BASE + u * NODE_BASE + v) as u16
+}
+
+// Whether an entry is an equation's place.
+pub fn is_equation(e: u16) -> bool
+    ensures { λ r. ⌜ Tells (e < placeBase) r ⌝ }
+{
+    (e as usize) < PLACE_BASE
+}
+
+// An entry's two nodes, and its place, counted from 1.
+pub fn first_of(e: u16) -> usize
+    ensures { λ r. ⌜ r ≡ firstOf e ⌝ }
+{
+    e as usize / NODE_BASE % NODE_BASE
+}
+
+pub fn second_of(e: u16) -> usize
+    ensures { λ r. ⌜ r ≡ secondOf e ⌝ }
+{
+    e as usize % NODE_BASE
+}
+
+pub fn place_of(e: u16) -> usize
+    ensures { λ r. ⌜ r ≡ placeOf e ⌝ }
+{
+    e as usize / PLACE_BASE
 }
 
 pub fn wide(x: u8) -> usize
@@ -52,7 +94,7 @@ pub fn join_equations(
     right: &[u8; 256],
 ) -> Progress
     requires { ⌜ TraceFits table (now trace) steps ⌝ }
-    requires { ⌜ m ≤ 256 ⌝ }
+    requires { ⌜ m ≤ equationLimit ⌝ }
     requires { ⌜ ((k : ℕ) → k < m → (getD (now left) k 0 < 64) × (getD (now right) k 0 < 64)) ⌝ }
     ensures { λ r. ⌜ PairsJoined (EquationEnds m (now (left .entry)) (now (right .entry)))
         (λ (k : ℕ). getD (now (left .entry)) k 0) (λ (k : ℕ). getD (now (right .entry)) k 0) m
@@ -64,8 +106,8 @@ pub fn join_equations(
     while k < m {
         let x = left[k];
         let y = right[k];
-        let cx = t[wide(x)];
-        let cy = t[wide(y)];
+        let cx = t[base::wide(x)];
+        let cy = t[base::wide(y)];
         if cx != cy {
             let next = solve_classes::unite(t, cx, cy);
             trace[n] = k as u16;
@@ -88,7 +130,7 @@ pub fn join_children(
     child: &[u8; 256],
 ) -> Progress
     requires { ⌜ TraceFits table (now trace) steps ⌝ }
-    requires { ⌜ (u < 64) × (v < 64) × (places ≤ 4) × (class table u ≡ class table v) ⌝ }
+    requires { ⌜ (u < 64) × (v < 64) × (places ≤ childLimit) × (class table u ≡ class table v) ⌝ }
     requires { ⌜ ((k : ℕ) → k < places → (getD (now child) (4 * u + k) 0 < 64) × (getD (now child) (4 * v + k) 0 < 64)) ⌝ }
     ensures { λ r. ⌜ PairsJoined (Places (now (child .entry)) u v places)
         (λ (k : ℕ). getD (now (child .entry)) (4 * u + k) 0) (λ (k : ℕ). getD (now (child .entry)) (4 * v + k) 0) places
@@ -100,12 +142,12 @@ pub fn join_children(
     while k < places {
         let x = child[4 * u + k];
         let y = child[4 * v + k];
-        let cx = t[wide(x)];
-        let cy = t[wide(y)];
+        let cx = t[base::wide(x)];
+        let cy = t[base::wide(y)];
         if cx != cy {
-            let reason = (k + 1) * 4096 + u * 64 + v;
+            let reason = entry(k, u, v);
             let next = solve_classes::unite(t, cx, cy);
-            trace[n] = reason as u16;
+            trace[n] = reason;
             t = next;
             n += 1;
         }

@@ -2,57 +2,56 @@
 use mathlib.Core.Path.{_≡_, refl, subst}
 use mathlib.Core.Logic.{⊎-elim}
 use mathlib.Core.List.{List, [], _∷_, _++_}
-use Prim.Native.Nat.{ℕ, suc, _+_, _*_, _-_, _/_, _%_, _≤_, _<_}
+use Prim.Native.Nat.{ℕ, suc, _+_, _*_, _-_, _≤_, _<_}
 use native.Mathlib.Nat.{eq-or-lt-of-le}
 use native.Mathlib.Omega.{arith}
 use lib.ListN.{length, getD, take}
 use lib.Seq.{length-take-le, take-all, take-nil, take-append-le, getD-take}
 use borrow.Author.Tests.{lt-ltb, le-ltb}
+use Rattle.graph.specs.Limits.{childLimit, equationLimit}
 use Rattle.graph.specs.State.{State}
 use Rattle.base.proofs.ListLaws.{found-lt}
 use Rattle.solve_classes.specs.Table.{class}
-use Rattle.solve_trace.specs.Trace.{byPlace, Reason, equation, down, Traced, start, merge}
+use Rattle.solve_trace.specs.Packing.{placeBase, firstOf, secondOf, placeOf}
+use Rattle.solve_trace.specs.Trace.{Reason, equation, down, Traced, start, merge}
+use Rattle.solve_trace.proofs.PackingLaws.{entry-of, first-of, second-of, place-of}
 use Rattle.solve_trace.proofs.TraceLaws.{reason-known, traced-table}
 use Rattle.solve_trace.proofs.ReplayLaws.{last-length, traced-unique, replay}
 use Rattle.write_needed.specs.Entries.{endAt, InRange, AllInRange, Limited, EndsAndChildren, ReasonHolds, AllReasonsHold}
 
--- ---- the numbers of an entry
-
-module _ (p q j : ℕ) (hp : p < 64) (hq : q < 64) where
-  pub first-of : byPlace p q j / 64 % 64 ≡ p
-  first-of = omega arith
-
-  pub second-of : byPlace p q j % 64 ≡ q
-  second-of = omega arith
-
-  pub place-of : byPlace p q j / 4096 ≡ suc j
-  place-of = omega arith
-
 -- ---- the nodes that an entry joins
 
-module _ {left right child : List ℕ} (s : State) (D : EndsAndChildren left right child s) where
-  child-end : (ends : List ℕ) (p i j v e : ℕ) → 4096 ≤ e → e / 4096 ≡ suc j → i ≡ p → getD child (4 * p + j) 0 ≡ v → endAt ends child i e ≡ v
-  child-end ends p i j v e l q r h =
-      let z : e / 4096 - 1 ≡ j = omega arith in
-      rw (le-ltb e 4096 l, z, r) h
+-- as the code finds them: p is the entry's node, a what it joins on that side
+module _ {left right child : List ℕ} {e p a : ℕ} (r : InRange left right child e) where
+  pub left-low : p ≡ firstOf e → a ≡ endAt left child p e → a < 64
+  left-low q h = rw (h, q) (r .lefts)
 
-  pub entry-ends : {t : List ℕ} {e x y : ℕ} → Reason s t e x y → (endAt left child (e / 64 % 64) e ≡ x) × (endAt right child (e % 64) e ≡ y)
+  pub right-low : p ≡ secondOf e → a ≡ endAt right child p e → a < 64
+  right-low q h = rw (h, q) (r .rights)
+
+module _ {left right child : List ℕ} (s : State) (D : EndsAndChildren left right child s) where
+  child-end : (ends : List ℕ) (p i j v e : ℕ) → placeBase ≤ e → placeOf e ≡ suc j → i ≡ p → getD child (4 * p + j) 0 ≡ v → endAt ends child i e ≡ v
+  child-end ends p i j v e l q r h =
+      let z : placeOf e - 1 ≡ j = omega arith in
+      rw (le-ltb e placeBase l, z, r) h
+
+  pub entry-ends : {t : List ℕ} {e x y : ℕ} → Reason s t e x y → (endAt left child (firstOf e) e ≡ x) × (endAt right child (secondOf e) e ≡ y)
   entry-ends (equation {e = d} k h) =
-      let l = lt-ltb k 4096 (omega (arith, found-lt (s .equations) k d h, D .limited .few)) in
+      let l = lt-ltb k placeBase (omega (arith, found-lt (s .equations) k d h, D .limited .few)) in
       (rw l (D .lefts k d h), rw l (D .rights k d h))
   entry-ends (down p q j {f} {g} {x} {y} {cs} {ds} c n m w a b) =
       let hp : p < 64 = omega (arith, D .limited .fits, found-lt (s .nodes) p _ n) in
       let hq : q < 64 = omega (arith, D .limited .fits, found-lt (s .nodes) q _ m) in
       let k = place-of p q j hp hq in (
-        child-end left p _ j x _ (omega arith) k (first-of p q j hp hq) (D .children p f j x cs n a .1),
-        child-end right q _ j y _ (omega arith) k (second-of p q j hp hq) (D .children q g j y ds m b .1),
+        child-end left p _ j x _ (entry-of p q j) k (first-of p q j hp hq) (D .children p f j x cs n a .1),
+        child-end right q _ j y _ (entry-of p q j) k (second-of p q j hp hq) (D .children q g j y ds m b .1),
       )
 
-  entry-held : {t : List ℕ} {e x y : ℕ} → Reason s t e x y → e < 4096 → e < 256
+  entry-held : {t : List ℕ} {e x y : ℕ} → Reason s t e x y → e < placeBase → e < equationLimit
   entry-held (equation {e = d} k h) l = omega (arith, found-lt (s .equations) k d h, D .limited .few)
   entry-held (down p q j c n m w a b) l = absurd (omega arith)
 
-  entry-placed : {t : List ℕ} {e x y : ℕ} → Reason s t e x y → e < 20480
+  entry-placed : {t : List ℕ} {e x y : ℕ} → Reason s t e x y → placeOf e ≤ childLimit
   entry-placed (equation {e = d} k h) = omega (arith, found-lt (s .equations) k d h, D .limited .few)
   entry-placed (down p q j {f} {g} {x} {y} {cs} {ds} c n m w a b) =
       omega (arith, D .limited .fits, found-lt (s .nodes) p _ n, found-lt (s .nodes) q _ m, D .children p f j x cs n a .0)
@@ -77,7 +76,7 @@ module _ {left right child : List ℕ} (s : State) (D : EndsAndChildren left rig
       record {
         left = x;
         right = y;
-        reason = λ t f. down p q j (rw (first-of p q j hp hq, second-of p q j hp hq) at (f (omega arith))) n m w a b;
+        reason = λ t f. down p q j (rw (first-of p q j hp hq, second-of p q j hp hq) at (f (entry-of p q j))) n m w a b;
       }
 
   prefix : {es t : List ℕ} → Traced s es t → (k : ℕ) → k ≤ length es → (r : List ℕ) × Traced s (take k es) r

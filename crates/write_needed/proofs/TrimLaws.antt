@@ -2,7 +2,7 @@
 use mathlib.Core.Path.{_≡_, refl, sym, _∙_}
 use mathlib.Core.Bool.{Bool, true, false, not}
 use mathlib.Core.List.{List}
-use Prim.Native.Nat.{ℕ, _+_, _/_, _%_, _≤_, _<_}
+use Prim.Native.Nat.{ℕ, _+_, _≤_, _<_}
 use native.Mathlib.Omega.{arith}
 use native.Mathlib.Numerals.{add-one}
 use lib.ListN.{length, getD, set, take, length-set}
@@ -10,6 +10,7 @@ use lib.Seq.{take-suc, getD-set-same, getD-set-other}
 use borrow.Author.Count.{below-more}
 use Rattle.graph.specs.State.{State}
 use Rattle.solve_classes.specs.Table.{class, Fresh, Merged}
+use Rattle.solve_trace.specs.Packing.{firstOf, secondOf}
 use Rattle.solve_trace.specs.Trace.{Reason, start, merge}
 use Rattle.write_needed.specs.Entries.{endAt, AllInRange, Together, AllReasonsHold}
 use Rattle.write_needed.specs.Trim.{PairsTogether, Rebuilt, Rejoins, Among, Trimmed}
@@ -25,7 +26,7 @@ module _ {left right child trace : List ℕ} {l : ℕ} where
 
   module _ {k : ℕ} {t : List ℕ} (B : Rebuilt left right child trace l k t) where
     pub rebuilt-more : {r : List ℕ} {a b : ℕ} → k < l → l ≤ length trace
-        → a ≡ endAt left child (getD trace k 0 / 64 % 64) (getD trace k 0) → b ≡ endAt right child (getD trace k 0 % 64) (getD trace k 0)
+        → a ≡ endAt left child (firstOf (getD trace k 0)) (getD trace k 0) → b ≡ endAt right child (secondOf (getD trace k 0)) (getD trace k 0)
         → (class t a ≡ class t b → ⊥) → Together t (getD trace k 0) → Merged t a b r → Rebuilt left right child trace l (k + 1) r
     rebuilt-more {r} {a} {b} h g ea eb apart near m =
         record {

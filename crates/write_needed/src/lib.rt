@@ -1,9 +1,11 @@
-// The entries of a trace that a goal needs. An entry below 4,096 is an equation's place; any other is two nodes of one class
-// and a place: see `solve_trace`.
+// The entries of a trace that a goal needs. An entry is an equation's place, or two nodes of one class and a place: see
+// `solve_trace`.
 ghost use mathlib.Core.Path.{_≡_};
 ghost use mathlib.Core.Bool.{true};
-ghost use Prim.Native.Nat.{ℕ, _-_, _/_, _%_, _≤_, _<_};
+ghost use Prim.Native.Nat.{ℕ, _-_, _≤_, _<_};
 ghost use lib.ListN.{length, getD};
+ghost use Rattle.graph.specs.Limits.{nodeLimit, childLimit, equationLimit};
+ghost use Rattle.solve_trace.specs.Packing.{placeBase, placeOf};
 ghost use Rattle.write_needed.specs.Entries.{endAt, AllInRange, Together};
 ghost use Rattle.write_needed.specs.Trim.{PairsTogether, Rejoins, Among, Trimmed};
 
@@ -14,25 +16,25 @@ pub struct Needed {
 }
 
 // The node that an entry joins on one side: an equation's end, or the child of `node` at the entry's place.
-pub fn end_of<'a>(reason: u16, node: u16, ends: &'a [u8; 256], child: &'a [u8; 256]) -> u8
-    requires { ⌜ (reason < 4096 → reason < 256) × ((reason < 20480) × (node < 64)) ⌝ }
+pub fn end_of<'a>(reason: u16, node: usize, ends: &'a [u8; 256], child: &'a [u8; 256]) -> u8
+    requires { ⌜ (reason < placeBase → reason < equationLimit) × ((placeOf reason ≤ childLimit) × (node < nodeLimit)) ⌝ }
     ensures { λ r. ⌜ r ≡ endAt (now (ends .entry)) (now (child .entry)) node reason ⌝ }
 {
-    if reason < 4096 {
+    if solve_trace::is_equation(reason) {
         return ends[reason as usize];
     }
-    let j = reason / 4096 - 1;
-    child[4 * node as usize + j as usize]
+    let j = solve_trace::place_of(reason) - 1;
+    child[4 * node + j]
 }
 
 // The entry's nodes are of one class, where it has two.
 fn together(table: &[u8; 64], reason: u16) -> bool
     ensures { λ r. ⌜ (r ≡ true → Together (now (table .entry)) reason) ⌝ }
 {
-    if reason < 4096 {
+    if solve_trace::is_equation(reason) {
         return true;
     }
-    table[(reason / 64 % 64) as usize] == table[(reason % 64) as usize]
+    table[solve_trace::first_of(reason)] == table[solve_trace::second_of(reason)]
 }
 
 // Each of the first `n` pairs is of one class.
@@ -73,8 +75,8 @@ fn joins<'a>(
     let mut k: usize = 0;
     while k < steps {
         let e = trace[k];
-        let a = end_of(e, e / 64 % 64, left, child);
-        let b = end_of(e, e % 64, right, child);
+        let a = end_of(e, solve_trace::first_of(e), left, child);
+        let b = end_of(e, solve_trace::second_of(e), right, child);
         let ca = table[a as usize];
         let cb = table[b as usize];
         if ca == cb {

@@ -11,12 +11,12 @@ use borrow.Author.Count.{below-more}
 use borrow.Author.Tests.{eq-eqb, ne-eqb, le-leb, lt-leb}
 use Rattle.graph.specs.State.{State, IsNode}
 use Rattle.graph.specs.Lines.{Line, Claim, same}
-use Rattle.solve_classes.specs.Table.{class}
+use Rattle.solve_classes.specs.Table.{class, memberAt}
 use Rattle.base.proofs.SumLaws.{sum-none, sum-more}
 use Rattle.proof_lines.specs.Codec.{line, Put}
 use Rattle.proof_lines.specs.Proof.{Kept}
 use Rattle.write_runs.specs.Written.{ClaimAt}
-use Rattle.write_runs.specs.Runs.{inClassCount, Pen, Linked, Bridged, BridgedBack, Started, Absorbed, Rewired}
+use Rattle.write_runs.specs.Runs.{Pen, Linked, Bridged, BridgedBack, Started, Absorbed, Rewired}
 use Rattle.write_runs.proofs.SizeLaws.{class-size}
 use Rattle.write_runs.proofs.Claims.{claim-reflexivity, claim-symmetry, claim-transitivity, written-none, written-more, more-more, kept-put, kept-kept, kept-none}
 
@@ -99,7 +99,7 @@ module _ {buf from : List ℕ} {n nodes : ℕ} {t : List ℕ} {keep gone l : ℕ
       record {
         low = omega arith;
         high = omega arith;
-        tight = omega (arith, sum-none (inClassCount t gone));
+        tight = omega (arith, sum-none (memberAt t gone));
         kept = kept-none n;
         size = e;
         more = λ s cs h w N L. record { claims = cs; written = w; bridge = L; done = λ i k. absurd (omega arith); rest = λ i k. N i };
@@ -111,7 +111,7 @@ module _ {buf from : List ℕ} {n nodes : ℕ} {t : List ℕ} {keep gone l : ℕ
         record {
           low = A .low;
           high = omega (arith, A .high);
-          tight = omega (arith, A .tight, sum-more (inClassCount t gone) x);
+          tight = omega (arith, A .tight, sum-more (memberAt t gone) x);
           kept = A .kept;
           size = A .size;
           more = λ s cs h w N L.
@@ -134,7 +134,7 @@ module _ {buf from : List ℕ} {n nodes : ℕ} {t : List ℕ} {keep gone l : ℕ
         (record {
           low = omega (arith, A .low);
           high = omega (arith, A .high);
-          tight = (let one : inClassCount t gone x ≡ 1 = (rw (eq-eqb (class t x) gone e)) in omega (arith, A .tight, sum-more (inClassCount t gone) x));
+          tight = (let one : memberAt t gone x ≡ 1 = (rw (eq-eqb (class t x) gone e)) in omega (arith, A .tight, sum-more (memberAt t gone) x));
           kept = kept-kept {n = m} (omega arith) (A .kept) (kept-put refl P);
           size = length-set to x m ∙ A .size;
           more = λ s cs h w N L.

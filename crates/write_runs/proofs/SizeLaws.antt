@@ -8,12 +8,11 @@ use native.Mathlib.Nat.{eq-or-lt-of-le}
 use native.Mathlib.Omega.{arith}
 use lib.Dec.{eqb, leb}
 use borrow.Author.Tests.{eqb-true, eqb-false, eq-eqb, ne-eqb}
-use Rattle.solve_classes.specs.Table.{class, Fresh, Merged, mergedClass, root, classCount}
+use Rattle.solve_classes.specs.Table.{class, Merged, mergedClass, memberAt, root, classCount}
 use Rattle.base.specs.Sum.{sumTo}
-use Rattle.write_runs.specs.Runs.{inClassCount}
 
 -- at i at most one of "lowest of its class" and "in class c" holds, but for i = c
-both : (t : List ℕ) (c i : ℕ) → (c ≡ i → ⊥) → root t i + inClassCount t c i ≤ 1
+both : (t : List ℕ) (c i : ℕ) → (c ≡ i → ⊥) → root t i + memberAt t c i ≤ 1
 both t c i d = go (eqb (class t i) i) (eqb (class t i) c) refl refl
   where
     go : (p q : Bool) → eqb (class t i) i ≡ p → eqb (class t i) c ≡ q → cond p 1 0 + cond q 1 0 ≤ 1
@@ -27,13 +26,13 @@ most true = omega arith
 most false = omega arith
 
 -- as many classes and members as nodes, and one more once c was passed
-counted : (t : List ℕ) (c n : ℕ) → (n ≤ c → sumTo (root t) n + sumTo (inClassCount t c) n ≤ n) × (sumTo (root t) n + sumTo (inClassCount t c) n ≤ n + 1)
+counted : (t : List ℕ) (c n : ℕ) → (n ≤ c → sumTo (root t) n + sumTo (memberAt t c) n ≤ n) × (sumTo (root t) n + sumTo (memberAt t c) n ≤ n + 1)
 unfolding sumTo
 counted t c zero = (λ h. omega arith, omega arith)
 counted t c (suc n) = (λ h. omega (arith, counted t c n .0 (omega arith), both t c n (λ e. omega (arith, e))), go (eqb c n) refl (counted t c n))
   where
-    go : (q : Bool) → eqb c n ≡ q → (n ≤ c → sumTo (root t) n + sumTo (inClassCount t c) n ≤ n) × (sumTo (root t) n + sumTo (inClassCount t c) n ≤ n + 1)
-        → sumTo (root t) n + root t n + (sumTo (inClassCount t c) n + inClassCount t c n) ≤ suc n + 1
+    go : (q : Bool) → eqb c n ≡ q → (n ≤ c → sumTo (root t) n + sumTo (memberAt t c) n ≤ n) × (sumTo (root t) n + sumTo (memberAt t c) n ≤ n + 1)
+        → sumTo (root t) n + root t n + (sumTo (memberAt t c) n + memberAt t c n) ≤ suc n + 1
     go true e p = omega (arith, p .0 (omega (arith, eqb-true c n e)), most (eqb (class t n) n), most (eqb (class t n) c))
     go false e p = omega (arith, p .1, both t c n (eqb-false c n e))
 
@@ -42,21 +41,11 @@ unfolding sumTo
 grows f n zero h = let e : n ≡ 0 = omega arith in rw e (omega arith)
 grows f n (suc m) h = ⊎-elim (λ q. rw q (omega arith)) (λ q. omega (arith, grows f n m (omega arith))) (eq-or-lt-of-le h)
 
-pub class-size : (t : List ℕ) (c n : ℕ) → n ≤ 64 → sumTo (inClassCount t c) n + classCount t ≤ 65
+pub class-size : (t : List ℕ) (c n : ℕ) → n ≤ 64 → sumTo (memberAt t c) n + classCount t ≤ 65
 class-size t c n h =
-    omega (arith, grows (inClassCount t c) n 64 h, counted t c 64 .1)
+    omega (arith, grows (memberAt t c) n 64 h, counted t c 64 .1)
 
 -- ---- the number of classes
-
-all-roots : (t : List ℕ) → Fresh t → (n : ℕ) → n ≤ 64 → n ≤ sumTo (root t) n
-unfolding sumTo
-all-roots t F zero h = omega arith
-all-roots t F (suc n) h =
-    let one : root t n ≡ 1 = (rw (eq-eqb (class t n) n (F .alone n (omega arith)))) in
-    omega (arith, all-roots t F n (omega arith))
-
-pub fresh-count : (t : List ℕ) → Fresh t → 64 ≤ classCount t
-fresh-count t F = all-roots t F 64 (omega arith)
 
 -- the class number that goes
 abbrev gone : (ℕ → ℕ) → ℕ → ℕ → ℕ

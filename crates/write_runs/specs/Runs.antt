@@ -1,5 +1,4 @@
 -- What each run of lines adds to those in the buffer.
---   inClassCount        how many nodes of a class there are is a sum of these
 --   LineForEach, Pen   for each node x a line that claims x same c x
 --   Linked         p same q, from p same x and q same x
 --   Bridged        x same y, from a same b, a same x and b same y; BridgedBack: y same x
@@ -15,14 +14,10 @@ use lib.ListN.{length, getD}
 use lib.Dec.{eqb}
 use Rattle.graph.specs.State.{State, IsNode}
 use Rattle.graph.specs.Lines.{Claim, same}
-use Rattle.solve_classes.specs.Table.{class, mergedClass, classCount}
+use Rattle.solve_classes.specs.Table.{class, memberAt, mergedClass, classCount}
 use Rattle.base.specs.Sum.{sumTo}
 use Rattle.proof_lines.specs.Proof.{Kept}
 use Rattle.write_runs.specs.Written.{ClaimAt, LinesClaim, More}
-
--- 1 where node i is in class c
-abbrev pub inClassCount : List ℕ → ℕ → ℕ → ℕ
-inClassCount t c i = cond (eqb (class t i) c) 1 0
 
 -- for each node x a line that claims x same c x
 abbrev pub LineForEach : State → List Claim → (ℕ → ℕ) → List ℕ → Type 0
@@ -68,7 +63,7 @@ pub record Absorbing (s : State) (c : ℕ → ℕ) (keep gone l x : ℕ) (out to
 pub record Absorbed (buf from : List ℕ) (n nodes : ℕ) (t : List ℕ) (keep gone l x : ℕ) (out to : List ℕ) (m : ℕ) : Type 0 where
   pub low : n ≤ m
   pub high : m ≤ n + x
-  pub tight : m ≤ n + sumTo (inClassCount t gone) x
+  pub tight : m ≤ n + sumTo (memberAt t gone) x
   pub kept : Kept m buf out
   pub size : length to ≡ 64
   pub more : (s : State) (cs : List Claim) → length (s .nodes) ≡ nodes → LinesClaim s buf n cs → LineForEach s cs (class t) from

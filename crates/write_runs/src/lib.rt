@@ -2,12 +2,13 @@
 // number of a line that claims the node same its class number.
 ghost use mathlib.Core.Path.{_≡_};
 ghost use Prim.Native.Nat.{_+_, _≤_, _<_};
+ghost use Rattle.graph.specs.Limits.{nodeLimit, lineLimit, bufferBytes};
 ghost use lib.ListN.{length};
 ghost use Rattle.write_runs.specs.Runs.{Linked, Bridged, BridgedBack, Started, Absorbed, Rewired};
 
 // From lines `i`, p same x, and `j`, q same x: p same q, in two lines.
 pub fn link(buf: &mut [u8], n: usize, i: u16, j: u16)
-    requires { ⌜ (n + 2 ≤ 8192) × (65536 ≤ length (now buf)) ⌝ }
+    requires { ⌜ (n + 2 ≤ lineLimit) × (bufferBytes ≤ length (now buf)) ⌝ }
     ensures { λ _. ⌜ Linked (now (buf .entry)) n i j (now (buf .exit)) ⌝ }
 {
     proof_lines::put_line(buf, n, 4, 0, j, 0);
@@ -16,7 +17,7 @@ pub fn link(buf: &mut [u8], n: usize, i: u16, j: u16)
 
 // From lines `r`, a same b, `i`, a same x, and `j`, b same y: x same y, in three lines.
 pub fn bridge(buf: &mut [u8], n: usize, r: u16, i: u16, j: u16)
-    requires { ⌜ (n + 3 ≤ 8192) × (65536 ≤ length (now buf)) ⌝ }
+    requires { ⌜ (n + 3 ≤ lineLimit) × (bufferBytes ≤ length (now buf)) ⌝ }
     ensures { λ _. ⌜ Bridged (now (buf .entry)) n r i j (now (buf .exit)) ⌝ }
 {
     proof_lines::put_line(buf, n, 5, 0, r, j);
@@ -26,7 +27,7 @@ pub fn bridge(buf: &mut [u8], n: usize, r: u16, i: u16, j: u16)
 
 // The same, with y same x.
 pub fn bridge_back(buf: &mut [u8], n: usize, r: u16, i: u16, j: u16)
-    requires { ⌜ (n + 3 ≤ 8192) × (65536 ≤ length (now buf)) ⌝ }
+    requires { ⌜ (n + 3 ≤ lineLimit) × (bufferBytes ≤ length (now buf)) ⌝ }
     ensures { λ _. ⌜ BridgedBack (now (buf .entry)) n r i j (now (buf .exit)) ⌝ }
 {
     proof_lines::put_line(buf, n, 5, 0, r, j);
@@ -36,7 +37,7 @@ pub fn bridge_back(buf: &mut [u8], n: usize, r: u16, i: u16, j: u16)
 
 // A line for each node that claims it same itself.
 pub fn start(buf: &mut [u8], nodes: usize, to: &mut [u16; 64])
-    requires { ⌜ (nodes ≤ 64) × (65536 ≤ length (now buf)) ⌝ }
+    requires { ⌜ (nodes ≤ nodeLimit) × (bufferBytes ≤ length (now buf)) ⌝ }
     requires { ⌜ length (now to) ≡ 64 ⌝ }
     ensures { λ _. ⌜ Started (now (buf .entry)) nodes (now (buf .exit)) (now (to .exit)) ⌝ }
 {
@@ -59,7 +60,7 @@ pub fn absorb(
     l: u16,
     to: &mut [u16; 64],
 ) -> usize
-    requires { ⌜ (nodes ≤ 64) × ((n + 64 ≤ 8192) × (65536 ≤ length (now buf))) ⌝ }
+    requires { ⌜ (nodes ≤ nodeLimit) × ((n + 64 ≤ lineLimit) × (bufferBytes ≤ length (now buf))) ⌝ }
     requires { ⌜ length (now to) ≡ 64 ⌝ }
     ensures { λ r. ⌜ Absorbed (now (buf .entry)) (now (to .entry)) n nodes table keep gone l nodes (now (buf .exit)) (now (to .exit)) r ⌝ }
 {
@@ -87,7 +88,7 @@ pub fn rewire(
     b: u8,
     to: &mut [u16; 64],
 ) -> usize
-    requires { ⌜ (nodes ≤ 64) × ((n + 67 ≤ 8192) × (65536 ≤ length (now buf))) ⌝ }
+    requires { ⌜ (nodes ≤ nodeLimit) × ((n + 67 ≤ lineLimit) × (bufferBytes ≤ length (now buf))) ⌝ }
     requires { ⌜ (length (now to) ≡ 64) × ((a < 64) × (b < 64)) ⌝ }
     ensures { λ r. ⌜ Rewired (now (buf .entry)) (now (to .entry)) n nodes table l a b (now (buf .exit)) (now (to .exit)) r ⌝ }
 {

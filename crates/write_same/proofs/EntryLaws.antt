@@ -11,9 +11,9 @@ use Rattle.graph.specs.Lines.{same, byEquation, downOf}
 use Rattle.base.proofs.ListLaws.{found-lt}
 use Rattle.solve_classes.specs.Table.{class}
 use Rattle.solve_trace.specs.Trace.{Reason, equation, down}
-use Rattle.solve_trace.specs.Replay.{ByPlace}
-use Rattle.write_needed.proofs.EntryLaws.{first-of, second-of, place-of}
-use Rattle.write_same.specs.Replay.{Names}
+use Rattle.solve_trace.specs.Packing.{placeBase}
+use Rattle.solve_trace.proofs.PackingLaws.{first-of, second-of, place-of}
+use Rattle.write_same.specs.Replay.{Names, ByPlace}
 
 -- the rule `down`, computed
 down-claim : (s : State) (p q j f g x y : ℕ) (cs ds : List ℕ) → NodeAt s p (functor f cs) → NodeAt s q (functor g ds) → EqualLabels f cs g ds
@@ -21,11 +21,11 @@ down-claim : (s : State) (p q j f g x y : ℕ) (cs ds : List ℕ) → NodeAt s p
 down-claim s p q j f g x y cs ds n m l a b = rw (n, m, eq-eqb f g (l .0), eq-eqb (length cs) (length ds) (l .1), a, b)
 
 module _ {nodes : ℕ} {name : List ℕ} (s : State) (N : Names nodes name s) where
-  pub equation-line : {t : List ℕ} {e a b : ℕ} → e < 4096 → Reason s t e a b → byEquation (s .equations) (getD name e 0) ≡ some (same a b)
+  pub equation-line : {t : List ℕ} {e a b : ℕ} → e < placeBase → Reason s t e a b → byEquation (s .equations) (getD name e 0) ≡ some (same a b)
   equation-line l (equation {e = d} k h) = N .named k d h
   equation-line l (down p q j c n m w x y) = absurd (omega arith)
 
-  pub place-line : {t : List ℕ} {e a b : ℕ} → 4096 ≤ e → Reason s t e a b → ByPlace s (class t) e a b
+  pub place-line : {t : List ℕ} {e a b : ℕ} → placeBase ≤ e → Reason s t e a b → ByPlace s (class t) e a b
   place-line l (equation {e = d} k h) = absurd (omega (arith, found-lt (s .equations) k d h, N .limited .few))
   place-line l (down p q j {f} {g} {x} {y} {cs} {ds} c n m w a b) =
       let kp = found-lt (s .nodes) p _ n in

@@ -1,7 +1,7 @@
 -- What each entry adds to the lines, and all of them.
 use mathlib.Core.Path.{_≡_, refl, sym, _∙_, subst}
 use mathlib.Core.List.{List}
-use Prim.Native.Nat.{ℕ, _+_, _*_, _/_, _%_, _≤_, _<_}
+use Prim.Native.Nat.{ℕ, _+_, _*_, _≤_, _<_}
 use native.Mathlib.Omega.{arith}
 use native.Mathlib.Numerals.{add-one}
 use lib.ListN.{length, getD, take}
@@ -9,8 +9,10 @@ use lib.Seq.{length-take-le, take-suc, take-take, getD-take}
 use Rattle.graph.specs.State.{State, IsNode}
 use Rattle.graph.specs.Lines.{same}
 use Rattle.solve_classes.specs.Table.{class, Fresh, Merged}
+use Rattle.solve_classes.proofs.CountLaws.{fresh-count}
 use Rattle.base.specs.Sum.{sumTo}
 use Rattle.base.proofs.SumLaws.{sum-none, sum-more}
+use Rattle.solve_trace.specs.Packing.{placeBase, firstOf, secondOf, placeOf}
 use Rattle.solve_trace.specs.Trace.{Reason, Traced, start, merge}
 use Rattle.solve_trace.proofs.TraceLaws.{reason-known}
 use Rattle.solve_trace.proofs.ReplayLaws as tr
@@ -18,7 +20,7 @@ use Rattle.proof_lines.specs.Codec.{line, Put}
 use Rattle.write_runs.specs.Written.{ClaimAt, LinesClaim}
 use Rattle.write_runs.specs.Runs.{Pen, Linked, Started, Rewired}
 use Rattle.write_runs.proofs.Claims.{claim-equation, claim-down, written-more, concludes, kept-put, kept-kept, kept-none}
-use Rattle.write_runs.proofs.SizeLaws.{grows, fresh-count, one-fewer}
+use Rattle.write_runs.proofs.SizeLaws.{grows, one-fewer}
 use Rattle.write_runs.proofs.RunLaws.{started-pen}
 use Rattle.write_needed.specs.Entries.{endAt, EndsAndChildren}
 use Rattle.write_needed.specs.Trim.{Trimmed}
@@ -29,7 +31,7 @@ use Rattle.write_same.proofs.EntryLaws.{equation-line, place-line}
 -- ---- one entry
 
 module _ {name buf from : List ℕ} {n nodes : ℕ} {t : List ℕ} {e a b : ℕ} where
-  pub stepped-equation : {mid out to : List ℕ} {m x y : ℕ} → e < 4096 → Put buf n (line 1 0 (getD name e 0) 0) mid
+  pub stepped-equation : {mid out to : List ℕ} {m x y : ℕ} → e < placeBase → Put buf n (line 1 0 (getD name e 0) 0) mid
       → Rewired mid from (n + 1) nodes t n x y out to m → x ≡ a → y ≡ b → EntryReplayed name buf from n nodes t e a b out to m
   stepped-equation {mid} {out} {to} {m} l P Q ex ey =
       let R : Rewired mid from (n + 1) nodes t n a b out to m = (rw (ex, ey) at Q) in
@@ -45,10 +47,14 @@ module _ {name buf from : List ℕ} {n nodes : ℕ} {t : List ℕ} {e a b : ℕ}
             R .more s (u .claims) (N .count) (k .0) (k .1) (u .written) (λ x h. u .older _ _ (p .number x h)) (u .last);
       }
 
-  pub stepped-place : {one two out to : List ℕ} {m : ℕ} → 4096 ≤ e → Linked buf n (getD from (e / 64 % 64) 0) (getD from (e % 64) 0) one
-      → Put one (n + 2) (line 6 (e / 4096) (n + 1) 0) two → Rewired two from (n + 3) nodes t (n + 2) a b out to m
+  -- p, q and j are what the code reads off the entry
+  pub stepped-place : {one two out to : List ℕ} {m p q j : ℕ} → (e < placeBase → ⊥) → p ≡ firstOf e → q ≡ secondOf e → j ≡ placeOf e
+      → Linked buf n (getD from p 0) (getD from q 0) one → Put one (n + 2) (line 6 j (n + 1) 0) two → Rewired two from (n + 3) nodes t (n + 2) a b out to m
       → EntryReplayed name buf from n nodes t e a b out to m
-  stepped-place l K P R =
+  stepped-place {one} {two} far ep eq ej J Q R =
+      let l : placeBase ≤ e = omega (arith, far) in
+      let K : Linked buf n (getD from (firstOf e) 0) (getD from (secondOf e) 0) one = (rw (ep, eq) at J) in
+      let P : Put one (n + 2) (line 6 (placeOf e) (n + 1) 0) two = (rw ej at Q) in
       record {
         low = omega (arith, R .low);
         high = omega (arith, R .high);
@@ -58,10 +64,10 @@ module _ {name buf from : List ℕ} {n nodes : ℕ} {t : List ℕ} {e a b : ℕ}
         more = λ s N w p.
             let k = reason-known s (N .limited .proper) w in
             let D = place-line s N l w in
-            let second : ClaimAt (p .claims) (getD from (e % 64) 0) (same (e % 64) (class t (e / 64 % 64))) =
-            (rw (D .one-class) (p .number (e % 64) (D .second-known))) in
-            let u = K .more s (p .claims) (e / 64 % 64) (e % 64) (class t (e / 64 % 64)) (p .written) (p .number (e / 64 % 64) (D .first-known)) second in
-            let v = written-more s {m = n + 3} (omega arith) (u .written) P (claim-down s (u .claims) (n + 1) (e / 4096) (e / 64 % 64) (e % 64) a b (u .last) (D .children)) in
+            let second : ClaimAt (p .claims) (getD from (secondOf e) 0) (same (secondOf e) (class t (firstOf e))) =
+            (rw (D .one-class) (p .number (secondOf e) (D .second-known))) in
+            let u = K .more s (p .claims) (firstOf e) (secondOf e) (class t (firstOf e)) (p .written) (p .number (firstOf e) (D .first-known)) second in
+            let v = written-more s {m = n + 3} (omega arith) (u .written) P (claim-down s (u .claims) (n + 1) (placeOf e) (firstOf e) (secondOf e) a b (u .last) (D .children)) in
             R .more s (v .claims) (N .count) (k .0) (k .1) (v .written) (λ x h. v .older _ _ (u .older _ _ (p .number x h))) (v .last);
       }
 
@@ -86,7 +92,7 @@ module _ {left right child trace : List ℕ} {l : ℕ} where
   made-none F = record { table = F .table; traced = λ s r D T. start F }
 
   module _ {k : ℕ} {t : List ℕ} (M : Made left right child trace l k t) (h : k < l) (g : l ≤ length trace) {a b : ℕ}
-      (ea : a ≡ endAt left child (getD trace k 0 / 64 % 64) (getD trace k 0)) (eb : b ≡ endAt right child (getD trace k 0 % 64) (getD trace k 0)) where
+      (ea : a ≡ endAt left child (firstOf (getD trace k 0)) (getD trace k 0)) (eb : b ≡ endAt right child (secondOf (getD trace k 0)) (getD trace k 0)) where
     -- entry k joins a and b, and they were two classes
     pub entry : (s : State) (q : List ℕ) → EndsAndChildren left right child s → Traced s (take l trace) q
         → Reason s t (getD trace k 0) a b × (class t a ≡ class t b → ⊥)
@@ -126,7 +132,7 @@ module _ {nodes : ℕ} {name left right child trace : List ℕ} {l : ℕ} {buf f
 
   module _ {k : ℕ} {t out to : List ℕ} {m : ℕ} (R : Retracing nodes name left right child trace l buf from n k t out to m) where
     pub retracing-more : {new ends r : List ℕ} {w a b : ℕ} → k < l → l ≤ length trace
-        → a ≡ endAt left child (getD trace k 0 / 64 % 64) (getD trace k 0) → b ≡ endAt right child (getD trace k 0 % 64) (getD trace k 0)
+        → a ≡ endAt left child (firstOf (getD trace k 0)) (getD trace k 0) → b ≡ endAt right child (secondOf (getD trace k 0)) (getD trace k 0)
         → EntryReplayed name out to m nodes t (getD trace k 0) a b new ends w → Merged t a b r
         → Retracing nodes name left right child trace l buf from n (k + 1) r new ends w
     retracing-more {new} {ends} {r} {w} {a} {b} h g ea eb S M =

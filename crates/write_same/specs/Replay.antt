@@ -1,6 +1,7 @@
 -- A trace replayed as proof lines.
 --   Names      a state's equations, in order, have these names, all different
 --   Describes  its equations and nodes are those of the arrays: what the writer reads of a state
+--   ByPlace    an entry of two nodes and a place, as the rule `down` reads it
 --   EntryReplayed    the lines of one entry
 --   Made       the table of a part of the trace
 --   Retraced   the lines of the first k entries
@@ -14,9 +15,10 @@ use mathlib.Core.Option.{some}
 use Prim.Native.Nat.{ℕ, _+_, _*_, _≤_}
 use lib.ListN.{length, getD, getElem?, take}
 use Rattle.graph.specs.State.{Equation, State, IsNode}
-use Rattle.graph.specs.Lines.{same, byEquation}
+use Rattle.graph.specs.Lines.{same, byEquation, downOf}
 use Rattle.solve_classes.specs.Table.{class, Table, mergedClass, classCount}
 use Rattle.base.specs.Sum.{sumTo}
+use Rattle.solve_trace.specs.Packing.{firstOf, secondOf, placeOf}
 use Rattle.solve_trace.specs.Trace.{Reason, Traced}
 use Rattle.write_needed.specs.Entries.{Limited, EndsAndChildren}
 use Rattle.write_needed.specs.Trim.{PairsTogether, Joined}
@@ -31,6 +33,13 @@ pub record Names (nodes : ℕ) (name : List ℕ) (s : State) : Type 0 where
 pub record Describes (nodes : ℕ) (name left right child : List ℕ) (s : State) : Type 0 where
   pub names : Names nodes name s
   pub ends : EndsAndChildren left right child s
+
+-- the entry is two nodes of one class and equal labels, and a place, where their children are x and y
+pub record ByPlace (s : State) (c : ℕ → ℕ) (e x y : ℕ) : Type 0 where
+  pub first-known : IsNode s (firstOf e)
+  pub second-known : IsNode s (secondOf e)
+  pub one-class : c (firstOf e) ≡ c (secondOf e)
+  pub children : downOf (s .nodes) (placeOf e) (same (firstOf e) (secondOf e)) ≡ some (same x y)
 
 -- the entry e joins a and b
 pub record EntryReplayed (name buf from : List ℕ) (n nodes : ℕ) (t : List ℕ) (e a b : ℕ) (out to : List ℕ) (m : ℕ) : Type 0 where

@@ -1,9 +1,11 @@
 // A trace of merges replayed as proof lines, and the lines for two nodes of one class. For each node, `to` has the number of
-// a line that claims the node same its class number. An entry below 4,096 is an equation's place; any other is two nodes of
-// one class and a place: see `solve_trace`.
+// a line that claims the node same its class number. An entry is an equation's place, or two nodes of one class and a place:
+// see `solve_trace`.
 ghost use mathlib.Core.Path.{_≡_};
 ghost use Prim.Native.Nat.{ℕ, _+_, _*_, _≤_, _<_};
 ghost use lib.ListN.{length, getD};
+ghost use Rattle.graph.specs.Limits.{nodeLimit, equationLimit, lineLimit, bufferBytes};
+ghost use Rattle.solve_trace.specs.Packing.{placeBase};
 ghost use Rattle.write_needed.specs.Entries.{AllInRange};
 ghost use Rattle.write_same.specs.Replay.{EntryReplayed, Retraced, Prepared, Explained};
 
@@ -19,19 +21,20 @@ fn step(
     name: &[u16; 256],
     to: &mut [u16; 64],
 ) -> usize
-    requires { ⌜ (nodes ≤ 64) × ((n + 70 ≤ 8192) × (65536 ≤ length (now buf))) ⌝ }
+    requires { ⌜ (nodes ≤ nodeLimit) × ((n + 70 ≤ lineLimit) × (bufferBytes ≤ length (now buf))) ⌝ }
     requires { ⌜ (length (now to) ≡ 64) × ((a < 64) × (b < 64)) ⌝ }
-    requires { ⌜ (reason < 4096 → reason < 256) ⌝ }
+    requires { ⌜ (reason < placeBase → reason < equationLimit) ⌝ }
     ensures { λ r. ⌜ EntryReplayed (now (name .entry)) (now (buf .entry)) (now (to .entry)) n nodes table reason a b (now (buf .exit)) (now (to .exit)) r ⌝ }
 {
-    if reason < 4096 {
+    if solve_trace::is_equation(reason) {
         proof_lines::put_line(buf, n, 1, 0, name[reason as usize], 0);
         return write_runs::rewire(buf, n + 1, nodes, table, n as u16, a, b, to);
     }
-    let i = to[(reason / 64 % 64) as usize];
-    let j = to[(reason % 64) as usize];
+    let i = to[solve_trace::first_of(reason)];
+    let j = to[solve_trace::second_of(reason)];
+    let place = solve_trace::place_of(reason) as u8;
     write_runs::link(buf, n, i, j);
-    proof_lines::put_line(buf, n + 2, 6, (reason / 4096) as u8, n as u16 + 1, 0);
+    proof_lines::put_line(buf, n + 2, 6, place, n as u16 + 1, 0);
     write_runs::rewire(buf, n + 3, nodes, table, n as u16 + 2, a, b, to)
 }
 
@@ -48,7 +51,7 @@ pub fn replay<'a>(
     child: &'a [u8; 256],
     to: &mut [u16; 64],
 ) -> usize
-    requires { ⌜ (n ≤ 64) × ((nodes ≤ 64) × ((steps ≤ 63) × (65536 ≤ length (now buf)))) ⌝ }
+    requires { ⌜ (n ≤ 64) × ((nodes ≤ nodeLimit) × ((steps ≤ 63) × (bufferBytes ≤ length (now buf)))) ⌝ }
     requires { ⌜ length (now to) ≡ 64 ⌝ }
     requires { ⌜ (length (now trace) ≡ 64) × AllInRange (now trace) steps (now left) (now right) (now child) ⌝ }
     ensures { λ r. ⌜ Retraced nodes (now (name .entry)) (now (left .entry)) (now (right .entry)) (now (child .entry)) (now (trace .entry)) (now (buf .entry)) (now (to .entry)) n steps (now (buf .exit)) (now (to .exit)) r ⌝ }
@@ -58,8 +61,8 @@ pub fn replay<'a>(
     let mut k: usize = 0;
     while k < steps {
         let e = trace[k];
-        let a = write_needed::end_of(e, e / 64 % 64, left, child);
-        let b = write_needed::end_of(e, e % 64, right, child);
+        let a = write_needed::end_of(e, solve_trace::first_of(e), left, child);
+        let b = write_needed::end_of(e, solve_trace::second_of(e), right, child);
         let more = step(buf, m, nodes, table, e, a, b, name, to);
         m = more;
         let ca = table[a as usize];
@@ -88,7 +91,7 @@ pub fn prepare<'a>(
     n: usize,
     to: &mut [u16; 64],
 ) -> usize
-    requires { ⌜ (nodes ≤ 64) × ((steps ≤ 63) × (65536 ≤ length (now buf))) ⌝ }
+    requires { ⌜ (nodes ≤ nodeLimit) × ((steps ≤ 63) × (bufferBytes ≤ length (now buf))) ⌝ }
     requires { ⌜ length (now to) ≡ 64 ⌝ }
     requires { ⌜ (length (now trace) ≡ 64) × AllInRange (now trace) steps (now left) (now right) (now child) ⌝ }
     requires { ⌜ (u < 64) × ((v < 64) × (n ≤ 64)) ⌝ }
@@ -115,7 +118,7 @@ pub fn explain_same<'a>(
     u: u8,
     v: u8,
 ) -> usize
-    requires { ⌜ (nodes ≤ 64) × ((steps ≤ 63) × (65536 ≤ length (now buf))) ⌝ }
+    requires { ⌜ (nodes ≤ nodeLimit) × ((steps ≤ 63) × (bufferBytes ≤ length (now buf))) ⌝ }
     requires { ⌜ (u < 64) × (v < 64) ⌝ }
     requires { ⌜ (length (now trace) ≡ 64) × AllInRange (now trace) steps (now left) (now right) (now child) ⌝ }
     ensures { λ r. ⌜ Explained nodes (now (name .entry)) (now (left .entry)) (now (right .entry)) (now (child .entry)) (now (trace .entry)) steps (now (buf .entry)) u v (now (buf .exit)) r ⌝ }

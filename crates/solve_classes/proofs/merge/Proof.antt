@@ -1,5 +1,4 @@
 -- `solve_classes::merge` meets its contract.
-use mathlib.Core.Path.{refl}
 use borrow.Author.Needs.{needs}
 use Rattle.solve_classes.proofs.merge.Statement.{statement}
 use Rattle.solve_classes.proofs.merge.Tie as tie

@@ -35,30 +35,32 @@ visit-requires c κs =
 
 pair-requires : tie.Need-pair-requires Inv-loop μ-loop
 pair-requires c κs =
-    let e = c .before in
+    let e = c .before .before in
     let v = e .before in
     let w = v .before .before .before in
     let a = w .before .before in
     let A = passed-visiting (a .loop .i - 1) (a .loop .i) (omega arith) (a .before .pre .1) (a .loop .inv .1) in
-    meeting _ _ _ _ _ _ A (w .wide .ensures) (v .visit .ensures) (e .if1 .taken)
+    rw (c .wide2 .ensures) (meeting _ _ _ _ _ _ A (w .wide .ensures) (v .visit .ensures) (e .if1 .taken))
 
 returns : tie.Need-returns Inv-loop μ-loop
 returns c =
     let p = c .before in
-    let e = p .before .before in
+    let b = p .before in
+    let e = b .before .before in
     let v = e .before in
     let w = v .before .before .before in
     let a = w .before .before in
     let A = passed-visiting (a .loop .i - 1) (a .loop .i) (omega arith) (a .before .pre .1) (a .loop .inv .1) in
     passed-clash _ _ _ _ (a .loop .i - 1) _ (omega arith) (a .loop .inv .1)
-    (visit-pair _ _ _ _ _ _ A (w .wide .ensures) (v .visit .ensures) (e .if1 .taken) (p .pair .ensures .0) (p .pair .ensures .1))
+    (visit-pair _ _ _ _ _ _ A (w .wide .ensures) (v .visit .ensures) (e .if1 .taken) (rw (b .wide2 .ensures) at (p .pair .ensures .0)) (rw (b .wide2 .ensures) at (p .pair .ensures .1)))
     (c .if2 .taken)
 
 loop-again : tie.Need-loop-again Inv-loop μ-loop
 loop-again c =
     let f = c .before in
     let p = f .before in
-    let e = p .before .before in
+    let b = p .before in
+    let e = b .before .before in
     let v = e .before in
     let w = v .before .before .before in
     let a = w .before .before in
@@ -66,7 +68,7 @@ loop-again c =
     let A = passed-visiting (a .loop .i - 1) (a .loop .i) (omega arith) F (a .loop .inv .1) in (
       omega arith,
       passed-more _ _ _ _ (a .loop .i - 1) _ (omega arith) (a .loop .inv .1)
-          (visit-pair _ _ _ _ _ _ A (w .wide .ensures) (v .visit .ensures) (e .if1 .taken) (p .pair .ensures .0) (p .pair .ensures .1))
+          (visit-pair _ _ _ _ _ _ A (w .wide .ensures) (v .visit .ensures) (e .if1 .taken) (rw (b .wide2 .ensures) at (p .pair .ensures .0)) (rw (b .wide2 .ensures) at (p .pair .ensures .1)))
           (f .if2 .left) F,
     )
 
@@ -99,6 +101,7 @@ round-spec =
     (λ c κs. search needs)
     element-copy-out-visit
     visit-requires
+    (λ c κs. search needs)
     pair-requires
     returns
     (λ c. search needs)

@@ -8,23 +8,11 @@ returns : tie.Need-returns
 returns c = variable (c .if1 .taken)
 
 returns-2 : tie.Need-returns-2
-returns-2 c =
-    let w = c .before in
-    rw (w .wide .ensures) (further (w .before .before .if1 .left) (rw (w .wide .ensures) at (c .if2 .taken)))
+returns-2 c = further (c .before .before .if1 .left) (c .if2 .taken)
 
 returns-3 : tie.Need-returns-3
-returns-3 c =
-    let w = c .before in
-    first (w .before .before .if1 .left) (rw (w .wide .ensures) at (c .if2 .left))
+returns-3 c = first (c .before .before .if1 .left) (c .if2 .left)
 
 pub visit-spec : {M : Type 1} → statement M
 visit-spec =
-    tie.close
-    (tie.spec
-    returns
-    (λ c. search needs)
-    (λ c κs. search needs)
-    returns-2
-    (λ c. search needs)
-    (λ c. search needs)
-    returns-3)
+    tie.close (tie.spec returns (λ c. search needs) returns-2 (λ c. search needs) (λ c. search needs) returns-3)

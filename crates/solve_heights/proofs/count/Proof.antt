@@ -3,7 +3,8 @@ use mathlib.Core.Path.{_≡_, refl, sym, _∙_}
 use mathlib.Core.Logic.{⊎-elim}
 use Prim.Native.Nat.{_≤_, _-_, _<_}
 use Rattle.solve_heights.specs.Passes.{Counted}
-use Rattle.solve_heights.proofs.PeelLaws.{counted-none, counted-low, counted-classes, counted-more, root-one, root-none}
+use Rattle.solve_heights.proofs.SummandLaws.{root-one, root-none}
+use Rattle.solve_heights.proofs.StartLaws.{counted-none, counted-low, counted-classes, counted-more}
 use native.Mathlib.Omega.{arith}
 use borrow.Author.Needs.{needs}
 use Rattle.solve_heights.proofs.count.Statement.{statement}

@@ -3,7 +3,7 @@ use mathlib.Core.Path.{_≡_}
 use Prim.Native.Nat.{_≤_, _-_}
 use Rattle.store.specs.Views.{terms}
 use Rattle.solve_heights.specs.Passes.{PeelPassed}
-use Rattle.solve_heights.proofs.PeelLaws.{turned-low, pass-none, pass-more}
+use Rattle.solve_heights.proofs.PassLaws.{turned-low, pass-none, pass-more}
 use native.Mathlib.Omega.{arith}
 use borrow.Author.Needs.{needs}
 use Rattle.solve_heights.proofs.pass.Statement.{statement}

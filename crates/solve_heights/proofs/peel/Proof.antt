@@ -1,5 +1,5 @@
 -- `solve_heights::peel` meets its contract.
-use Rattle.solve_heights.proofs.PeelLaws.{peel-start}
+use Rattle.solve_heights.proofs.StartLaws.{peel-start}
 use borrow.Author.Needs.{needs}
 use Rattle.solve_heights.proofs.peel.Statement.{statement}
 use Rattle.solve_heights.proofs.peel.Tie as tie

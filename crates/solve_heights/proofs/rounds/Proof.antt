@@ -2,7 +2,7 @@
 use Prim.Native.Nat.{_-_}
 use Rattle.store.specs.Views.{terms}
 use Rattle.solve_heights.specs.Passes.{Peeling}
-use Rattle.solve_heights.proofs.PeelLaws.{peel-stuck, peel-all}
+use Rattle.solve_heights.proofs.PassLaws.{peel-stuck, peel-all}
 use native.Mathlib.Omega.{arith}
 use borrow.Author.Needs.{needs}
 use Rattle.solve_heights.proofs.rounds.Statement.{statement}
@@ -34,7 +34,7 @@ loop-less : tie.Need-loop-less Inv-loop μ-loop
 loop-less c =
     let p = c .before in
     let a = p .before .before .before .before .before in
-    omega (arith, p .pass .ensures .risen)
+    omega (arith, p .pass .ensures .turns .risen)
 
 loop-again : tie.Need-loop-again Inv-loop μ-loop
 loop-again c = c .before .pass .ensures .peeling

@@ -4,8 +4,9 @@ use Prim.Native.Nat.{ℕ, _≤_, _-_, _<_}
 use borrow.Author.Count.{below-more}
 use Rattle.store.specs.Views.{terms}
 use Rattle.solve_heights.specs.Nodes.{under}
-use Rattle.solve_heights.specs.Peel.{heightAt}
-use Rattle.solve_heights.proofs.PeelLaws.{through}
+use Rattle.solve_heights.specs.Peel.{noHeight, heightAt}
+use Rattle.base.proofs.TellLaws.{tells-yes, tells-not}
+use Rattle.solve_heights.proofs.SummandLaws.{through}
 use native.Mathlib.Omega.{arith}
 use borrow.Author.Needs.{needs}
 use Rattle.solve_heights.proofs.stuck.Statement.{statement}
@@ -13,17 +14,13 @@ use Rattle.solve_heights.proofs.stuck.Tie as tie
 
 abbrev Inv-loop : tie.InvT-loop
 Inv-loop table height u n kind symbol arity child k j₀ j =
-    (j ≤ k) × ((i : ℕ) → i < j → heightAt height (under (terms n kind symbol arity child) table u i) ≡ 255 → ⊥)
+    (j ≤ k) × ((i : ℕ) → i < j → heightAt height (under (terms n kind symbol arity child) table u i) ≡ noHeight → ⊥)
 
 abbrev μ-loop : tie.MeasureT-loop
 μ-loop table height u n kind symbol arity child k j₀ j = k - j
 
 returns : tie.Need-returns Inv-loop μ-loop
-returns c =
-    record {
-      stuck = λ q. absurd (let z : _≡_ {A = ℕ} 0 1 = cc in omega arith);
-      free = λ q j U l e. c .if1 .taken (U .kind);
-    }
+returns c = tells-not (λ S. c .if1 .taken (S .functor .kind))
 
 add-wide : tie.Need-add-wide Inv-loop μ-loop
 add-wide c =
@@ -59,15 +56,12 @@ returns-2 c =
     let a = w .before .before .before .before .before in
     let k = a .before .before .before in
     let s = k .before .before in
-    record {
-      stuck = λ q. record {
-        functor = record { known = s .pre .1 .1 .0; kind = k .if1 .left };
-        place = a .loop .j;
-        within = omega (arith, a .before .wide .ensures);
-        stays = through (s .args .table .now) (s .args .height .now) (w .before .before .wide2 .ensures) (w .wide3 .ensures) ∙ omega (arith, c .if2 .taken);
-      };
-      free = λ q. absurd (let z : _≡_ {A = ℕ} 0 1 = cc in omega arith);
-    }
+    tells-yes (record {
+      functor = record { known = s .pre .1 .1 .0; kind = k .if1 .left };
+      place = a .loop .j;
+      within = omega (arith, a .before .wide .ensures);
+      stays = through (s .args .table .now) (s .args .height .now) (w .before .before .wide2 .ensures) (w .wide3 .ensures) ∙ omega (arith, c .if2 .taken);
+    })
 
 loop-again : tie.Need-loop-again Inv-loop μ-loop
 loop-again c =
@@ -79,12 +73,7 @@ loop-again c =
     )
 
 returns-3 : tie.Need-returns-3 Inv-loop μ-loop
-returns-3 c =
-    let s = c .before .before .before .before .before .before in
-    record {
-      stuck = λ q. absurd (let z : _≡_ {A = ℕ} 0 1 = cc in omega arith);
-      free = λ q j U l. c .before .loop .inv .1 j (omega (arith, c .before .before .wide .ensures));
-    }
+returns-3 c = tells-not (λ S. c .before .loop .inv .1 (S .place) (omega (arith, S .within, c .before .before .wide .ensures)) (S .stays))
 
 pub stuck-spec : {M : Type 1} → statement M
 stuck-spec =

@@ -2,7 +2,8 @@
 use mathlib.Core.Path.{refl, ap}
 use Prim.Native.Nat.{ℕ}
 use lib.ListN.{getD}
-use Rattle.solve_heights.proofs.PeelLaws.{own-low, small, visit-same, some-wait, release-more, release-last}
+use Rattle.solve_heights.proofs.ReleaseLaws.{own-low, small, visit-same, some-wait}
+use Rattle.solve_heights.proofs.GoneLaws.{release-more, release-last}
 use native.Mathlib.Omega.{arith}
 use borrow.Author.Needs.{needs}
 use Rattle.solve_heights.proofs.visit.Statement.{statement}
@@ -19,7 +20,7 @@ stuck-requires c κs =
 returns-2 : tie.Need-returns-2
 returns-2 c =
     let f = c .before in
-    visit-same _ _ _ _ _ _ _ (f .before .before .before .before .pre) (λ d. f .stuck .ensures .stuck (c .if2 .taken))
+    visit-same _ _ _ _ _ _ _ (f .before .before .before .before .pre) (λ d. f .stuck .ensures .holds (c .if2 .taken))
 
 element-copy-out-rest : tie.Need-element-copy-out-rest
 element-copy-out-rest c =
@@ -34,7 +35,7 @@ sub-rest c =
     let A = k .before .before .pre in
     omega (
       arith,
-      some-wait _ _ _ _ _ _ _ A (k .if1 .left) (f .stuck .ensures .free (w .before .before .if2 .left)),
+      some-wait _ _ _ _ _ _ _ A (k .if1 .left) (f .stuck .ensures .fails (w .before .before .if2 .left)),
       ap (λ (z : ℕ). getD (k .before .before .args .waiting .now) z 0) (w .wide .ensures),
     )
 
@@ -49,7 +50,7 @@ returns-3 c =
     let f = w .before .before .before in
     let k = f .before .before in
     let A = k .before .before .pre in
-    release-more _ _ _ _ _ _ _ A (k .if1 .left) (f .stuck .ensures .free (w .before .before .if2 .left)) _ _ (w .wide .ensures) refl (c .if3 .taken)
+    release-more _ _ _ _ _ _ _ A (k .if1 .left) (f .stuck .ensures .fails (w .before .before .if2 .left)) _ _ (w .wide .ensures) refl (c .if3 .taken)
 
 element-write-height : tie.Need-element-write-height
 element-write-height c =
@@ -67,7 +68,7 @@ returns-4 c =
     let f = w .before .before .before in
     let k = f .before .before in
     let A = k .before .before .pre in
-    release-last _ _ _ _ _ _ _ A (k .if1 .left) (f .stuck .ensures .free (w .before .before .if2 .left)) _ _ (w .wide .ensures) refl (omega (arith, c .if3 .left)) _ (omega arith)
+    release-last _ _ _ _ _ _ _ A (k .if1 .left) (f .stuck .ensures .fails (w .before .before .if2 .left)) _ _ (w .wide .ensures) refl (omega (arith, c .if3 .left)) _ (omega arith)
 
 pub visit-spec : {M : Type 1} → statement M
 visit-spec =

@@ -2,7 +2,7 @@
 use mathlib.Core.Path.{_≡_}
 use Prim.Native.Nat.{_≤_, _-_, _<_}
 use Rattle.store.specs.Views.{terms}
-use Rattle.solve_heights.proofs.PeelLaws.{turned-low}
+use Rattle.solve_heights.proofs.PassLaws.{turned-low}
 use Rattle.solve_reach.specs.Search.{SearchPassed}
 use Rattle.solve_reach.proofs.ReachLaws.{pass-none, pass-more}
 use native.Mathlib.Omega.{arith}

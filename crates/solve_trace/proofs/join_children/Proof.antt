@@ -1,12 +1,10 @@
 -- `solve_trace::join_children` meets its contract: after k turns the first k children are joined.
-use mathlib.Core.Path.{ap}
 use mathlib.Core.Logic.{⊎-elim}
 use Prim.Native.Nat.{ℕ, _+_, _*_, _≤_, _-_}
 use lib.ListN.{getD}
-use Rattle.solve_classes.specs.Table.{class}
-use Rattle.solve_trace.specs.Steps.{grown, PairsJoined, Places}
+use Rattle.solve_trace.specs.Steps.{PairsJoined, Places}
 use Rattle.solve_trace.proofs.ReasonLaws.{entry-is}
-use Rattle.solve_trace.proofs.StepLaws.{ready-room, pairs-none, pairs-more, pairs-skip, pairs-all}
+use Rattle.solve_trace.proofs.StepLaws.{ready-room, pairs-none, pairs-unite, pairs-skip, pairs-all}
 use native.Mathlib.Omega.{arith}
 use borrow.Author.Needs.{needs}
 use Rattle.solve_trace.proofs.join_children.Statement.{statement}
@@ -33,16 +31,16 @@ array-read-cy c =
     omega (arith, c .wide2 .ensures, a .before .pre .1 .1 (a .loop .k) (search needs) .1)
 
 unite-requires : tie.Need-unite-requires Inv-loop μ-loop
-unite-requires c κs = c .before .before .before .before .before .before .loop .inv .1 .extends .ready .table
+unite-requires c κs = c .before .before .before .before .before .before .before .loop .inv .1 .extends .ready .table
 
 element-write-trace : tie.Need-element-write-trace Inv-loop μ-loop
 element-write-trace c =
-    let a = c .before .before .before .before .before .before .before in
+    let a = c .before .before .before .before .before .before .before .before in
     omega (arith, ready-room (a .loop .inv .1 .extends .ready))
 
 add-n : tie.Need-add-n Inv-loop μ-loop
 add-n c =
-    let a = c .before .before .before .before .before .before .before in
+    let a = c .before .before .before .before .before .before .before .before in
     omega (arith, ready-room (a .loop .inv .1 .extends .ready))
 
 loop-again : tie.Need-loop-again Inv-loop μ-loop
@@ -50,14 +48,15 @@ loop-again c =
     let w2 = c .before in
     let w1 = w2 .before in
     let a = w1 .before .before .before .before in
+    let k = a .loop .k in
     let P = a .loop .inv .1 in
-    let H = a .before .pre .1 in (
+    let H = a .before .pre .1 in
+    let joined = P .extends .grows _ _ (H .0 .0) (H .0 .1) (H .0 .3) in (
       search needs,
       ⊎-elim
-          (λ w. rw (w .2, w .3, w .4)
-          (pairs-more _ _ _ (a .loop .k) _ (λ j h. H .1 j (omega arith)) (λ s E. entry-is _ (omega arith) (E _ (a .loop .k) (P .extends .grows _ _ (H .0 .0) (H .0 .1) (H .0 .3)) (search needs))) P
-          (grown (rw (← w1 .wide .ensures, ← w2 .wide2 .ensures) (w .0 .taken)) (w .1 .ensures _ _ (H .1 (a .loop .k) (search needs) .0) (H .1 (a .loop .k) (search needs) .1) (ap (class (a .loop .t)) (w1 .wide .ensures)) (ap (class (a .loop .t)) (w2 .wide2 .ensures))))))
-          (λ w. rw (w .1, w .2, w .3) (pairs-skip _ _ _ (a .loop .k) (rw (← w1 .wide .ensures, ← w2 .wide2 .ensures) (w .0 .left)) P))
+          (λ w. rw (w .3, w .4, w .5)
+          (pairs-unite _ _ _ k _ (λ j h. H .1 j (omega arith)) (λ s E. entry-is _ (omega (arith, w .1 .ensures)) (E _ k joined (search needs))) P (w1 .wide .ensures) (w2 .wide2 .ensures) (w .0 .taken) (w .2 .ensures)))
+          (λ w. rw (w .1, w .2, w .3) (pairs-skip _ _ _ k P (w1 .wide .ensures) (w2 .wide2 .ensures) (w .0 .left)))
           (c .if1 .came),
     )
 
@@ -81,13 +80,8 @@ join-children-spec =
     array-read-cx
     (λ c κs. search needs)
     array-read-cy
-    (λ c. search needs)
-    (λ c. search needs)
-    (λ c. search needs)
-    (λ c. search needs)
-    (λ c. search needs)
+    (λ c κs. search needs)
     unite-requires
-    (λ c. search needs)
     (λ c. search needs)
     element-write-trace
     add-n

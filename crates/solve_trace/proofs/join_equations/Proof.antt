@@ -1,13 +1,11 @@
 -- `solve_trace::join_equations` meets its contract: after k turns the first k equations are joined.
-use mathlib.Core.Path.{ap}
 use mathlib.Core.Logic.{⊎-elim}
 use Prim.Native.Nat.{ℕ, _≤_, _-_}
 use lib.ListN.{getD}
 use Rattle.solve_trace.specs.Nodes.{EquationEnds}
-use Rattle.solve_classes.specs.Table.{class}
-use Rattle.solve_trace.specs.Steps.{grown, PairsJoined}
+use Rattle.solve_trace.specs.Steps.{PairsJoined}
 use Rattle.solve_trace.proofs.ReasonLaws.{entry-is, by-equation}
-use Rattle.solve_trace.proofs.StepLaws.{ready-room, pairs-none, pairs-more, pairs-skip, pairs-all}
+use Rattle.solve_trace.proofs.StepLaws.{ready-room, pairs-none, pairs-unite, pairs-skip, pairs-all}
 use native.Mathlib.Omega.{arith}
 use borrow.Author.Needs.{needs}
 use Rattle.solve_trace.proofs.join_equations.Statement.{statement}
@@ -51,14 +49,14 @@ loop-again c =
     let w2 = c .before in
     let w1 = w2 .before in
     let a = w1 .before .before .before .before in
+    let k = a .loop .k in
     let P = a .loop .inv .1 in
     let H = a .before .pre .1 in (
       search needs,
       ⊎-elim
           (λ w. rw (w .2, w .3, w .4)
-          (pairs-more _ _ _ (a .loop .k) _ (λ j h. H .1 j (omega arith)) (λ s E. entry-is _ (omega arith) (by-equation _ _ _ _ s (a .loop .k) (search needs) E)) P
-          (grown (rw (← w1 .wide .ensures, ← w2 .wide2 .ensures) (w .0 .taken)) (w .1 .ensures _ _ (H .1 (a .loop .k) (search needs) .0) (H .1 (a .loop .k) (search needs) .1) (ap (class (a .loop .t)) (w1 .wide .ensures)) (ap (class (a .loop .t)) (w2 .wide2 .ensures))))))
-          (λ w. rw (w .1, w .2, w .3) (pairs-skip _ _ _ (a .loop .k) (rw (← w1 .wide .ensures, ← w2 .wide2 .ensures) (w .0 .left)) P))
+          (pairs-unite _ _ _ k _ (λ j h. H .1 j (omega arith)) (λ s E. entry-is _ (omega arith) (by-equation _ _ _ _ s k (search needs) E)) P (w1 .wide .ensures) (w2 .wide2 .ensures) (w .0 .taken) (w .1 .ensures)))
+          (λ w. rw (w .1, w .2, w .3) (pairs-skip _ _ _ k P (w1 .wide .ensures) (w2 .wide2 .ensures) (w .0 .left)))
           (c .if1 .came),
     )
 

@@ -4,6 +4,7 @@ use borrow.Author.Needs.{needs}
 use Prim.Native.Nat.{ℕ, _≤_, _-_}
 use mathlib.Core.Path.{_≡_, refl}
 use Rattle.write_needed.specs.Trim.{Rebuilt}
+use Rattle.write_needed.proofs.EntryLaws.{left-low, right-low}
 use Rattle.write_needed.proofs.TrimLaws.{passed, rebuilt-none, rebuilt-more, rejoins}
 use Rattle.write_needed.proofs.joins.Statement.{statement}
 use Rattle.write_needed.proofs.joins.Tie as tie
@@ -20,27 +21,28 @@ loop-holds c = (search needs, rebuilt-none (c .fresh .ensures))
 
 end-of-requires : tie.Need-end-of-requires Inv-loop μ-loop
 end-of-requires c κs =
-    let a = c .before .before in
+    let a = c .before .before .before in
     let r = a .before .before .pre .0 .1 .1 (a .loop .k) (search needs) in
-    (r .held, (r .placed, search needs))
+    (r .held, (r .placed, omega (arith, c .first-of .ensures)))
 
 end-of-requires-2 : tie.Need-end-of-requires-2 Inv-loop μ-loop
 end-of-requires-2 c κs =
-    let a = c .before .before .before in
+    let a = c .before .before .before .before .before in
     let r = a .before .before .pre .0 .1 .1 (a .loop .k) (search needs) in
-    (r .held, (r .placed, search needs))
+    (r .held, (r .placed, omega (arith, c .second-of .ensures)))
 
 array-read-ca : tie.Need-array-read-ca Inv-loop μ-loop
 array-read-ca c =
-    let a = c .before .before .before .before in
+    let p = c .before .before in
+    let a = p .before .before .before .before in
     let r = a .before .before .pre .0 .1 .1 (a .loop .k) (search needs) in
-    omega (arith, c .before .end-of .ensures, r .lefts)
+    left-low r (p .before .first-of .ensures) (p .end-of .ensures)
 
 array-read-cb : tie.Need-array-read-cb Inv-loop μ-loop
 array-read-cb c =
-    let a = c .before .before .before .before in
+    let a = c .before .before .before .before .before .before in
     let r = a .before .before .pre .0 .1 .1 (a .loop .k) (search needs) in
-    omega (arith, c .end-of2 .ensures, r .rights)
+    right-low r (c .before .second-of .ensures) (c .end-of2 .ensures)
 
 returns : tie.Need-returns Inv-loop μ-loop
 returns c = λ q. absurd (let z : _≡_ {A = ℕ} 0 1 = cc in omega arith)
@@ -49,18 +51,21 @@ returns-2 : tie.Need-returns-2 Inv-loop μ-loop
 returns-2 c = λ q. absurd (let z : _≡_ {A = ℕ} 0 1 = cc in omega arith)
 
 unite-requires : tie.Need-unite-requires Inv-loop μ-loop
-unite-requires c κs = c .before .before .before .before .before .before .before .before .loop .inv .1 .table
+unite-requires c κs = c .before .before .before .before .before .before .before .before .before .before .loop .inv .1 .table
 
 loop-again : tie.Need-loop-again Inv-loop μ-loop
 loop-again c =
-    let b = c .before .before .before .before .before in
-    let a = b .before .before .before .before in
+    let q = c .before .before .before .before .before in
+    let p = q .before .before in
+    let a = p .before .before .before .before in
     let S = a .before .before in
-    let r = S .pre .0 .1 .1 (a .loop .k) (search needs) in (
+    let r = S .pre .0 .1 .1 (a .loop .k) (search needs) in
+    let first = p .before .first-of .ensures in
+    let second = q .before .second-of .ensures in (
       search needs,
-      rebuilt-more (a .loop .inv .1) (search needs) (omega (arith, S .pre .0 .0, S .pre .0 .1 .0)) (b .before .end-of .ensures) (b .end-of2 .ensures)
+      rebuilt-more (a .loop .inv .1) (search needs) (omega (arith, S .pre .0 .0, S .pre .0 .1 .0)) (rw first at (p .end-of .ensures)) (rw second at (q .end-of2 .ensures))
           (c .before .before .before .before .if1 .left) (c .before .before .together .ensures (passed _ (c .before .if2 .left)))
-          (c .unite .ensures _ _ (rw (b .before .end-of .ensures) (r .lefts)) (rw (b .end-of2 .ensures) (r .rights)) refl refl),
+          (c .unite .ensures _ _ (left-low r first (p .end-of .ensures)) (right-low r second (q .end-of2 .ensures)) refl refl),
     )
 
 returns-3 : tie.Need-returns-3 Inv-loop μ-loop
@@ -79,7 +84,9 @@ joins-spec =
     loop-holds
     (λ c. search needs)
     (λ c. search needs)
+    (λ c κs. search needs)
     end-of-requires
+    (λ c κs. search needs)
     end-of-requires-2
     (λ c. search needs)
     array-read-ca

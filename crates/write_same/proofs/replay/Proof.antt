@@ -4,6 +4,7 @@ use borrow.Author.Needs.{needs}
 use mathlib.Core.Path.{refl}
 use Prim.Native.Nat.{_≤_, _-_}
 use Rattle.write_same.specs.Replay.{Retracing}
+use Rattle.write_needed.proofs.EntryLaws.{left-low, right-low}
 use Rattle.write_same.proofs.RetraceLaws.{rising, retracing-none, retracing-more, retraced}
 use Rattle.write_same.proofs.replay.Statement.{statement}
 use Rattle.write_same.proofs.replay.Tie as tie
@@ -20,53 +21,58 @@ loop-holds c = (search needs, retracing-none (c .fresh .ensures) (search needs))
 
 end-of-requires : tie.Need-end-of-requires Inv-loop μ-loop
 end-of-requires c κs =
-    let a = c .before .before in
+    let a = c .before .before .before in
     let r = a .before .before .before .pre .1 .1 .1 (a .loop .k) (search needs) in
-    (r .held, (r .placed, search needs))
+    (r .held, (r .placed, omega (arith, c .first-of .ensures)))
 
 end-of-requires-2 : tie.Need-end-of-requires-2 Inv-loop μ-loop
 end-of-requires-2 c κs =
-    let a = c .before .before .before in
+    let a = c .before .before .before .before .before in
     let r = a .before .before .before .pre .1 .1 .1 (a .loop .k) (search needs) in
-    (r .held, (r .placed, search needs))
+    (r .held, (r .placed, omega (arith, c .second-of .ensures)))
 
 step-requires : tie.Need-step-requires Inv-loop μ-loop
 step-requires c κs =
-    let b = c .before .before in
-    let a = b .before .before .before .before in
+    let q = c .before .before in
+    let p = q .before .before in
+    let a = p .before .before .before .before in
     let S = a .before .before .before in
-    let r = a .before .before .before .pre .1 .1 .1 (a .loop .k) (search needs) in
+    let r = S .pre .1 .1 .1 (a .loop .k) (search needs) in
     let R = a .loop .inv .1 in (
       (S .pre .0 .1 .0, (omega (arith, R .high, rising (a .loop .k) (omega (arith, S .pre .0 .1 .1 .0))), omega (arith, R .kept .size))),
-      ((R .size, (rw (b .before .end-of .ensures) (r .lefts), rw (b .end-of2 .ensures) (r .rights))), r .held),
+      ((R .size, (left-low r (p .before .first-of .ensures) (p .end-of .ensures), right-low r (q .before .second-of .ensures) (q .end-of2 .ensures))), r .held),
     )
 
 array-read-ca : tie.Need-array-read-ca Inv-loop μ-loop
 array-read-ca c =
-    let b = c .before .before .before .before .before in
-    let a = b .before .before .before .before in
+    let p = c .before .before .before .before .before .before .before in
+    let a = p .before .before .before .before in
     let r = a .before .before .before .pre .1 .1 .1 (a .loop .k) (search needs) in
-    omega (arith, b .before .end-of .ensures, r .lefts)
+    left-low r (p .before .first-of .ensures) (p .end-of .ensures)
 
 array-read-cb : tie.Need-array-read-cb Inv-loop μ-loop
 array-read-cb c =
-    let b = c .before .before .before .before .before in
-    let a = b .before .before .before .before in
+    let q = c .before .before .before .before .before in
+    let a = q .before .before .before .before .before .before in
     let r = a .before .before .before .pre .1 .1 .1 (a .loop .k) (search needs) in
-    omega (arith, b .end-of2 .ensures, r .rights)
+    right-low r (q .before .second-of .ensures) (q .end-of2 .ensures)
 
 unite-requires : tie.Need-unite-requires Inv-loop μ-loop
-unite-requires c κs = c .before .before .before .before .before .before .before .before .before .loop .inv .1 .made .table
+unite-requires c κs = c .before .before .before .before .before .before .before .before .before .before .before .loop .inv .1 .made .table
 
 loop-again : tie.Need-loop-again Inv-loop μ-loop
 loop-again c =
-    let q = c .before .before .before in
-    let b = q .before .before .before in
-    let a = b .before .before .before .before in
+    let w = c .before .before .before in
+    let q = w .before .before .before in
+    let p = q .before .before in
+    let a = p .before .before .before .before in
     let S = a .before .before .before in
-    let r = S .pre .1 .1 .1 (a .loop .k) (search needs) in (
+    let r = S .pre .1 .1 .1 (a .loop .k) (search needs) in
+    let first = p .before .first-of .ensures in
+    let second = q .before .second-of .ensures in (
       search needs,
-      retracing-more (a .loop .inv .1) (search needs) (omega (arith, S .pre .1 .1 .0, S .pre .0 .1 .1 .0)) (b .before .end-of .ensures) (b .end-of2 .ensures) (q .step .ensures) (c .unite .ensures _ _ (rw (b .before .end-of .ensures) (r .lefts)) (rw (b .end-of2 .ensures) (r .rights)) refl refl),
+      retracing-more (a .loop .inv .1) (search needs) (omega (arith, S .pre .1 .1 .0, S .pre .0 .1 .1 .0)) (rw first at (p .end-of .ensures)) (rw second at (q .end-of2 .ensures)) (w .step .ensures)
+          (c .unite .ensures _ _ (left-low r first (p .end-of .ensures)) (right-low r second (q .end-of2 .ensures)) refl refl),
     )
 
 returns : tie.Need-returns Inv-loop μ-loop
@@ -82,7 +88,9 @@ replay-spec =
     loop-holds
     (λ c. search needs)
     (λ c. search needs)
+    (λ c κs. search needs)
     end-of-requires
+    (λ c κs. search needs)
     end-of-requires-2
     step-requires
     (λ c. search needs)
