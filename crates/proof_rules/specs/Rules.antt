@@ -4,13 +4,10 @@
 --   claimed    the code's answer about a line, as a claim or none
 --   placed     the child at a place, or none
 --   labelsCompared   how the labels of two nodes compare
---   FirstName  where a name stands first
-use mathlib.Core.Path.{_≡_}
 use mathlib.Core.Bool.{cond}
 use mathlib.Core.List.{List, [], _∷_, _++_}
 use mathlib.Core.Option.{Option, none, some}
-use Prim.Native.Nat.{ℕ, _≤_, _<_}
-use lib.ListN.{getD}
+use Prim.Native.Nat.{ℕ}
 use lib.Dec.{eqb}
 use Rattle.graph.specs.State.{Equation, equationOf}
 use Rattle.graph.specs.Lines.{Claim, same, below, Functor, equalLabels}
@@ -42,9 +39,3 @@ abbrev pub labelsCompared : Option Functor → Option Functor → Labels
 labelsCompared none o = Missing
 labelsCompared (some k) none = Missing
 labelsCompared (some k) (some m) = cond (equalLabels k m) Equal Differ
-
--- the first of the first m names that is x; m where none is
-pub record FirstName (names : List ℕ) (m x r : ℕ) : Type 0 where
-  pub within : r ≤ m
-  pub before : (j : ℕ) → j < r → getD names j 0 ≡ x → ⊥
-  pub found : r < m → getD names r 0 ≡ x

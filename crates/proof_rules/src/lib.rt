@@ -8,7 +8,7 @@ ghost use lib.ListN.{getD};
 ghost use Rattle.base.specs.Tab.{tab};
 ghost use Rattle.graph.specs.Lines.{same, need, functorAt, placeAt, byEquation, byChild, downOf};
 ghost use Rattle.store.specs.Views.{terms, equations, nodesOf, equationsOf};
-ghost use Rattle.proof_rules.specs.Rules.{extended, claimed, placed, labelsCompared, FirstName};
+ghost use Rattle.proof_rules.specs.Rules.{extended, claimed, placed, labelsCompared};
 ghost use Rattle.store.specs.declared.Terms.{Terms};
 
 // The child at a place, or that there is none.
@@ -98,22 +98,6 @@ pub fn compare_labels<'a>(
     Labels::Equal
 }
 
-// Where the name `x` stands first among the first `m`.
-fn first_name(name: &[u16; 256], m: usize, x: u16) -> usize
-    requires { ⌜ m ≤ 256 ⌝ }
-    ensures { λ r. ⌜ FirstName (now (name .entry)) m x r ⌝ }
-{
-    let s: &[u16] = name;
-    let mut i = 0;
-    while i < m {
-        if s[i] == x {
-            return i;
-        }
-        i += 1;
-    }
-    i
-}
-
 // Rule 1 on the offered equation.
 fn by_offer(o: KnownOffer, x: u16) -> Claimed
     ensures { λ r. ⌜ claimed r ≡ byEquation (extended o []) x ⌝ }
@@ -142,7 +126,7 @@ pub fn by_equation<'a>(
     requires { ⌜ m ≤ 256 ⌝ }
     ensures { λ r. ⌜ claimed r ≡ byEquation (extended o (equationsOf (equations m (now (name .entry)) (now (left .entry)) (now (right .entry))))) x ⌝ }
 {
-    let k = first_name(name, m, x);
+    let k = store::find(name, m, x);
     if k < m {
         let lefts: &[u8] = left;
         let rights: &[u8] = right;
