@@ -8,7 +8,8 @@ use native.Mathlib.Nat.{div-lt-iff-lt-mul, div-add-mod', mod-lt}
 use native.Mathlib.Omega.{arith}
 use lib.Dec.{ltb, leb}
 use borrow.Author.Tests.{le-leb, ne-eqb, ltb-true, ltb-false}
-use Rattle.eqtrace_orders.specs.Grammar.{isDigit, digitsFrom, numberOf, try}
+use Rattle.graph.specs.Lines.{try}
+use Rattle.eqtrace_orders.specs.Grammar.{isDigit, digitsFrom, numberOf}
 use Rattle.eqtrace_answers.specs.Text.{decimalBy, decimal}
 use Rattle.eqtrace_answers.proofs.DigitLaws.{limit}
 
