@@ -2,7 +2,7 @@
 --   walked      how the code's walk over the lines ended
 --   goalOf      the thing to be shown
 --   judgedAs    the code's answer: passed, a refusal's number, or the line of refusal 12
---   badLength   refusal 11's case: 0 bytes, more than 8,192 lines have, or no multiple of 8
+--   badLength   refusal 11's case: 0 bytes, over 65,536, or no multiple of 8
 --   answerTo    the answer to a proof's bytes: 11, then 12 with the first line that breaks its rule, then 13, or passed
 use mathlib.Core.Bool.{Bool, not, _||_, cond}
 use mathlib.Core.List.{List}

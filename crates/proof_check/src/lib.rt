@@ -13,7 +13,7 @@ ghost use Rattle.store.specs.Views.{terms, equations, nodesOf, stateFrom};
 ghost use Rattle.proof_lines.specs.Codec.{linesOf};
 ghost use Rattle.proof_rules.specs.Rules.{offerOf, claimBy};
 ghost use Rattle.proof_claims.specs.Claims.{Fit};
-ghost use Rattle.proof_check.specs.Answers.{walked, goalOf, judgedAs, answerTo};
+ghost use Rattle.proof_check.specs.Answers.{walked, goalOf, judgedAs, badLength, answerTo};
 ghost use Rattle.store.specs.declared.Terms.{Terms};
 ghost use Rattle.store.specs.declared.Equations.{Equations};
 use proof_lines::Decoded;
@@ -169,6 +169,19 @@ fn shows_goal<'a>(
     }
 }
 
+// Refusal 11: no byte, more than a buffer's, or a part of a line at the end.
+pub fn bad_length(size: usize) -> bool
+    ensures { λ r. ⌜ r ≡ badLength size ⌝ }
+{
+    if size == 0 {
+        return true;
+    }
+    if size > graph::BUFFER {
+        return true;
+    }
+    size % 8 != 0
+}
+
 // Refusal 11, then 12 with the first line that breaks its rule, then 13; or the lines pass.
 pub fn check<'a>(
     kind: &'a [u8; 64],
@@ -189,14 +202,7 @@ pub fn check<'a>(
     requires { λ w. ⌜ Fit (w .0) (w .1) (offerOf offer) ⌝ }
     ensures { λ w r. ⌜ judgedAs r ≡ answerTo (withOffer (stateFrom (w .0) (w .1)) (offerOf offer)) (goalOf goal) (now (bytes .entry)) ⌝ }
 {
-    let size = bytes.len();
-    if size == 0 {
-        return Judged::Refused(11);
-    }
-    if size > graph::BUFFER {
-        return Judged::Refused(11);
-    }
-    if size % 8 != 0 {
+    if bad_length(bytes.len()) {
         return Judged::Refused(11);
     }
     match walk(
