@@ -7,23 +7,16 @@ use mathlib.Core.List.{List}
 use mathlib.Core.Option.{Option, none, some}
 use Prim.Native.Nat.{ℕ}
 use lib.ListN.{length}
-use lib.Dec.{ltb}
-use Rattle.graph.specs.State.{State, Equation, nameHeld, offered}
+use Rattle.graph.specs.State.{State, Equation, nameHeld, withOffer}
 use Rattle.graph.specs.Goals.{Goal, clash-goal, cycle-goal, same-goal, below-goal, Judgement, refused}
+use Rattle.proof_rules.specs.Rules.{bothBelow, offerBelow}
 use Rattle.proof_check.specs.Answers.{answerTo}
 use Rattle.unifier.specs.Views.{stateOf, Valid}
 use Rattle.unifier.specs.Replies.{judged}
 use Rattle.unifier.specs.declared.Workspace.{Workspace}
 use Rattle.unifier.specs.declared.Checked.{Checked}
 
--- of n nodes, each named one is known
-abbrev pub bothBelow : ℕ → ℕ → ℕ → Bool
-bothBelow n u v = ltb u n && ltb v n
-
-abbrev pub offerBelow : ℕ → Option Equation → Bool
-offerBelow n none = true
-offerBelow n (some e) = bothBelow n (e .left) (e .right)
-
+-- of n nodes, each that the goal names is known
 abbrev pub goalBelow : ℕ → Goal → Bool
 goalBelow n clash-goal = true
 goalBelow n cycle-goal = true
@@ -33,11 +26,6 @@ goalBelow n (below-goal u v) = bothBelow n u v
 abbrev pub offerNew : State → Option Equation → Bool
 offerNew s none = true
 offerNew s (some e) = not (nameHeld (e .name) (s .equations))
-
--- held and offered together
-abbrev pub withOffer : State → Option Equation → State
-withOffer s none = s
-withOffer s (some e) = offered s e
 
 unfoldable pub checkReply : State → Option Equation → Goal → List ℕ → Judgement
 checkReply s o g bytes =
