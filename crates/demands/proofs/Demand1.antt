@@ -16,24 +16,20 @@ use Rattle.graph.proofs.BookLaws.{answer-unique}
 use Rattle.solve_classes.proofs.MemberLaws.{class-unique}
 use Rattle.unifier.specs.Views.{Valid, stateOf, packed}
 use Rattle.unifier.specs.Replies.{said, judged, outcome, compared, classified, checked}
-use Rattle.unifier.specs.Answers.{Answers, Follows}
+use Rattle.unifier.specs.Answers.{Answers}
 use Rattle.unifier.specs.Equate.{Written, Equates}
-use Rattle.unifier.specs.Compare.{Stands, Replies, refusalOf, Compares}
+use Rattle.unifier.specs.Compare.{Stands, Replies, refusalOf}
 use Rattle.unifier.specs.Compare as stance
-use Rattle.unifier.specs.Class.{ClassReplies, ClassIs, Classifies}
-use Rattle.unifier.specs.Check.{Checks}
+use Rattle.unifier.specs.Class.{ClassReplies}
 use Rattle.unifier.proofs.PackedLaws.{repacked}
 use Rattle.unifier.specs.declared.Workspace.{Workspace}
 use Rattle.unifier.specs.declared.Outcome.{Outcome}
 use Rattle.unifier.specs.declared.Reply.{Reply}
 use Rattle.unifier.specs.declared.Reply.the-variants.{Node, Held, Gone, Refused, Clash, Cycle}
-use Rattle.unifier.specs.declared.Compared.{Compared}
 use Rattle.unifier.specs.declared.Comparison.{Comparison}
 use Rattle.unifier.specs.declared.Comparison.the-variants as comparison
-use Rattle.unifier.specs.declared.Classified.{Classified}
 use Rattle.unifier.specs.declared.ClassReply.{ClassReply}
 use Rattle.unifier.specs.declared.ClassReply.the-variants as class
-use Rattle.unifier.specs.declared.Checked.{Checked}
 use Rattle.unifier.specs.declared.CheckReply.{CheckReply}
 use Rattle.unifier.specs.declared.CheckReply.the-variants as check
 use Rattle.unifier.proofs.Free.{free as free-calls}

@@ -1,9 +1,8 @@
 -- A list of orders is answered as the book answers it.
 use mathlib.Core.Path.{_≡_, refl, sym, ap, _∙_, subst}
-use mathlib.Core.List.{List, [], _∷_, _++_, map}
+use mathlib.Core.List.{List, map}
 use mathlib.Core.Option.{Option, none, some}
 use Prim.Native.Nat.{ℕ, _+_}
-use native.Mathlib.Omega.{arith}
 use lib.ListN.{length}
 use Rattle.graph.specs.State.{State, emptyState, equationOf, variable, functor}
 use Rattle.graph.specs.Limits.{bufferBytes}

@@ -1,6 +1,10 @@
 -- What check promises: an equation. Refusals 1; 4 where the offered equation or the goal names an unknown node; 6 where the offered
 -- name is held; then the checker's own answer to the bytes (`answerTo`: 11, 12 with the line, 13, or passed), on the state of held
 -- and offered equations together.
+--   goalBelow   of n nodes, each that the goal names is known
+--   offerNew    the offered name isn't held
+--   checkReply  the reply to a workspace, from its two lists
+--   Checks      the whole promise
 use mathlib.Core.Path.{_≡_}
 use mathlib.Core.Bool.{Bool, true, not, _&&_, cond}
 use mathlib.Core.List.{List}
@@ -16,7 +20,6 @@ use Rattle.unifier.specs.Replies.{judged}
 use Rattle.unifier.specs.declared.Workspace.{Workspace}
 use Rattle.unifier.specs.declared.Checked.{Checked}
 
--- of n nodes, each that the goal names is known
 abbrev pub goalBelow : ℕ → Goal → Bool
 goalBelow n clash-goal = true
 goalBelow n cycle-goal = true
