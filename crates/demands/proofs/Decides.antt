@@ -1,5 +1,5 @@
 -- One equation offered to a workspace: what its reply leaves, and its fate, from equate's contract.
-use mathlib.Core.Path.{_≡_, refl, ap, _∙_, subst}
+use mathlib.Core.Path.{_≡_, refl, subst}
 use mathlib.Core.Bool.{Bool, true, false, cond}
 use mathlib.Core.List.{List}
 use mathlib.Core.Option.{none, some}
@@ -23,9 +23,10 @@ use Rattle.unifier.specs.Views.{Valid, stateOf, packed}
 use Rattle.unifier.specs.Replies.{said}
 use Rattle.unifier.specs.Answers.{Follows}
 use Rattle.unifier.specs.Equate.{Written, Equates}
-use Rattle.unifier.specs.Check.{bothBelow, goalBelow}
+use Rattle.proof_rules.specs.Rules.{bothBelow}
+use Rattle.unifier.specs.Check.{goalBelow}
 use Rattle.unifier.proofs.CheckLaws.{proof-checks}
-use Rattle.unifier.proofs.PackedLaws.{unpacked}
+use Rattle.unifier.proofs.PackedLaws.{packed-lists}
 use Rattle.unifier.specs.declared.Workspace.{Workspace}
 use Rattle.unifier.specs.declared.Outcome.{Outcome}
 use Rattle.unifier.specs.declared.Reply.{Reply}
@@ -125,9 +126,6 @@ ready-past s e lent r =
     record { buffer = r .buffer; known = rw (lt-ltb _ _ (r .left-known), lt-ltb _ _ (r .right-known)); new = r .new }
 
 -- a workspace that holds a state has a solution of it
-pub packed-lists : (s : State) (w : Workspace) → w ≡ packed s → Valid w → stateOf w ≡ s
-packed-lists s w p v = ap stateOf p ∙ unpacked s (subst Valid p v)
-
 packed-solution : (s : State) (w : Workspace) → w ≡ packed s → Valid w → Solution s
 packed-solution s w p v = subst Solution (packed-lists s w p v) (v .solution)
 

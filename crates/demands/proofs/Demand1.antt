@@ -16,30 +16,28 @@ use Rattle.graph.proofs.BookLaws.{answer-unique}
 use Rattle.solve_classes.proofs.MemberLaws.{class-unique}
 use Rattle.unifier.specs.Views.{Valid, stateOf, packed}
 use Rattle.unifier.specs.Replies.{said, judged, outcome, compared, classified, checked}
-use Rattle.unifier.specs.Answers.{Answers, Follows}
+use Rattle.unifier.specs.Answers.{Answers}
 use Rattle.unifier.specs.Equate.{Written, Equates}
-use Rattle.unifier.specs.Compare.{Stands, Replies, refusalOf, Compares}
+use Rattle.unifier.specs.Compare.{Stands, Replies, refusalOf}
 use Rattle.unifier.specs.Compare as stance
-use Rattle.unifier.specs.Class.{ClassReplies, ClassIs, Classifies}
-use Rattle.unifier.specs.Check.{Checks}
+use Rattle.unifier.specs.Class.{ClassReplies}
 use Rattle.unifier.proofs.PackedLaws.{repacked}
 use Rattle.unifier.specs.declared.Workspace.{Workspace}
 use Rattle.unifier.specs.declared.Outcome.{Outcome}
 use Rattle.unifier.specs.declared.Reply.{Reply}
 use Rattle.unifier.specs.declared.Reply.the-variants.{Node, Held, Gone, Refused, Clash, Cycle}
-use Rattle.unifier.specs.declared.Compared.{Compared}
 use Rattle.unifier.specs.declared.Comparison.{Comparison}
 use Rattle.unifier.specs.declared.Comparison.the-variants as comparison
-use Rattle.unifier.specs.declared.Classified.{Classified}
 use Rattle.unifier.specs.declared.ClassReply.{ClassReply}
 use Rattle.unifier.specs.declared.ClassReply.the-variants as class
-use Rattle.unifier.specs.declared.Checked.{Checked}
 use Rattle.unifier.specs.declared.CheckReply.{CheckReply}
 use Rattle.unifier.specs.declared.CheckReply.the-variants as check
 use Rattle.unifier.proofs.Free.{free as free-calls}
 use Rattle.proof_file.proofs.Free.{free as free-files}
 use Rattle.proof_reader.proofs.Free.{free as free-reader}
 use Rattle.proof_shorter.proofs.Free.{free as free-shorter}
+use Rattle.eqtrace_session.specs.Program.{Stance, is-same, lies-below, lies-above, is-apart}
+use Rattle.eqtrace_session.proofs.TellsLaws.{stance-unique}
 use Rattle.eqtrace_session.proofs.Free.{free as free-steps}
 use Rattle.proof_file.specs.File.{writeRefusal}
 use Rattle.proof_file.specs.Contracts.{Writes}
@@ -218,26 +216,15 @@ no-fault : (k j : ℕ) → (0 ≡ j → ⊥) → (10 ≡ j → ⊥) → (k ≡ 0
 no-fault k j n m (inl p) e = n (sym p ∙ e)
 no-fault k j n m (inr p) e = m (sym p ∙ e)
 
-one-stance : (s : State) (u v : ℕ) {before after left : List ℕ} (r q : Comparison) → Stands s u v before after r → Stands s u v before left q → uncountedStance r ≡ uncountedStance q
-one-stance s u v (comparison.Same n) (comparison.Same m) (stance.same p a) (stance.same q b) = refl
-one-stance s u v (comparison.Same n) (comparison.Below m) (stance.same p a) (stance.below x q b) = absurd (x p)
-one-stance s u v (comparison.Same n) (comparison.Above m) (stance.same p a) (stance.above x y q b) = absurd (x p)
-one-stance s u v (comparison.Same n) comparison.Apart (stance.same p a) (stance.apart x y z b) = absurd (x p)
-one-stance s u v (comparison.Below n) (comparison.Same m) (stance.below x p a) (stance.same q b) = absurd (x q)
-one-stance s u v (comparison.Below n) (comparison.Below m) (stance.below x p a) (stance.below y q b) = refl
-one-stance s u v (comparison.Below n) (comparison.Above m) (stance.below x p a) (stance.above y z q b) = absurd (z p)
-one-stance s u v (comparison.Below n) comparison.Apart (stance.below x p a) (stance.apart y z k b) = absurd (z p)
-one-stance s u v (comparison.Above n) (comparison.Same m) (stance.above x y p a) (stance.same q b) = absurd (x q)
-one-stance s u v (comparison.Above n) (comparison.Below m) (stance.above x y p a) (stance.below z q b) = absurd (y q)
-one-stance s u v (comparison.Above n) (comparison.Above m) (stance.above x y p a) (stance.above z k q b) = refl
-one-stance s u v (comparison.Above n) comparison.Apart (stance.above x y p a) (stance.apart z k j b) = absurd (j p)
-one-stance s u v comparison.Apart (comparison.Same m) (stance.apart x y z a) (stance.same q b) = absurd (x q)
-one-stance s u v comparison.Apart (comparison.Below m) (stance.apart x y z a) (stance.below k q b) = absurd (y q)
-one-stance s u v comparison.Apart (comparison.Above m) (stance.apart x y z a) (stance.above k j q b) = absurd (z q)
-one-stance s u v comparison.Apart comparison.Apart (stance.apart x y z a) (stance.apart k j i b) = refl
+stance-of : (s : State) (u v : ℕ) {before after : List ℕ} (r : Comparison) → Stands s u v before after r
+    → Stance s u v (comparison.Same 0) (comparison.Below 0) (comparison.Above 0) comparison.Apart (uncountedStance r)
+stance-of s u v (comparison.Same n) (stance.same p a) = is-same p
+stance-of s u v (comparison.Below n) (stance.below x p a) = lies-below x p
+stance-of s u v (comparison.Above n) (stance.above x y p a) = lies-above x y p
+stance-of s u v comparison.Apart (stance.apart x y z a) = is-apart x y z
 
 one-comparison : (o : Option ℕ) (s : State) (u v : ℕ) (before after left : List ℕ) (r q : Comparison) → Replies o s u v before after r → Replies o s u v before left q → uncountedStance r ≡ uncountedStance q
-one-comparison none s u v before after left r q p h = one-stance s u v r q p h
+one-comparison none s u v before after left r q p h = stance-unique (stance-of s u v r p) (stance-of s u v q h)
 one-comparison (some k) s u v before after left r q p h = ap uncountedStance (p .0 ∙ sym (h .0))
 
 module _ (w : Workspace) (ok : Valid w) (c : book.Call) (r q : Outcome) (A : Answers w c r) (B : Answers w c q) where

@@ -8,7 +8,7 @@ use native.Mathlib.Omega.{arith}
 use lib.ListN.{length, take}
 use lib.Dec.{ltb}
 use borrow.Author.Tests.{ltb-false}
-use Rattle.graph.specs.State.{State, Equation}
+use Rattle.graph.specs.State.{State, Equation, withOffer}
 use Rattle.graph.specs.Closure.{Same, Below, symmetry, below-same, below-below}
 use Rattle.graph.specs.Goals.{Goal, same-goal, below-goal, passed, refused}
 use Rattle.graph.proofs.SolutionLaws.{solution-no-cycle}
@@ -20,7 +20,8 @@ use Rattle.unifier.specs.Views.{Valid, stateOf}
 use Rattle.unifier.specs.Replies.{judged}
 use Rattle.unifier.specs.Compare.{refusalOf, Stands}
 use Rattle.unifier.specs.Compare as compare
-use Rattle.unifier.specs.Check.{goalBelow, offerBelow, offerNew, checkReply, withOffer}
+use Rattle.proof_rules.specs.Rules.{offerBelow}
+use Rattle.unifier.specs.Check.{goalBelow, offerNew, checkReply}
 use Rattle.unifier.specs.declared.Workspace.{Workspace}
 use Rattle.unifier.specs.declared.Comparison.{Comparison}
 use Rattle.unifier.specs.declared.Comparison.the-variants as says

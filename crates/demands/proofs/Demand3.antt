@@ -14,8 +14,8 @@ use Rattle.unifier.specs.declared.Workspace.{Workspace}
 use Rattle.unifier.specs.declared.Outcome.{Outcome}
 use Rattle.demands.specs.Calls.{LentCall, Result, Ran, variable-declared, functor-declared, equation-offered, withdrawn, all-cleared, RanAll, over, next, workspaceIn, workspaceAfter, fed, saidOf}
 use Rattle.demands.specs.History.{Proved, Agrees, AllAgree, none-left, one-more, Offerable, OfferDecided, Demand3}
-use Rattle.unifier.proofs.PackedLaws.{fresh-valid, fresh-state, fresh-packed}
-use Rattle.demands.proofs.Decides.{shown-by, packed-lists, decides}
+use Rattle.unifier.proofs.PackedLaws.{packed-lists, fresh-valid, fresh-state, fresh-packed}
+use Rattle.demands.proofs.Decides.{shown-by, decides}
 
 -- one call, beside the book that has the workspace's two lists
 record Step (w : Workspace) (c : LentCall) (r : Result) : Type 0 where

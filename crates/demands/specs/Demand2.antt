@@ -9,13 +9,13 @@ use mathlib.Core.List.{List}
 use mathlib.Core.Option.{Option, none}
 use Prim.Native.Nat.{ℕ, _*_}
 use lib.ListN.{length, take}
-use Rattle.graph.specs.State.{Equation}
+use Rattle.graph.specs.State.{Equation, withOffer}
 use Rattle.graph.specs.Closure.{Same, Below}
 use Rattle.graph.specs.Goals.{Goal, same-goal, below-goal, passed, Meaning, Cites}
 use Rattle.proof_lines.specs.Codec.{linesOf}
 use Rattle.unifier.specs.Views.{Valid, stateOf}
 use Rattle.unifier.specs.Compare.{refusalOf, Compares}
-use Rattle.unifier.specs.Check.{checkReply, withOffer, Checks}
+use Rattle.unifier.specs.Check.{checkReply, Checks}
 use Rattle.unifier.specs.declared.Workspace.{Workspace}
 use Rattle.unifier.specs.declared.Compared.{Compared}
 use Rattle.unifier.specs.declared.Comparison.{Comparison}

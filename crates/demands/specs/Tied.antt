@@ -14,7 +14,8 @@ use contract.Lifetimes.{Lfts}
 use denote.Ref.{RefT, now}
 use Rattle.graph.specs.State.{equationOf}
 use Rattle.unifier.specs.Views.{freshWorkspace}
-use Rattle.unifier.specs.Replies.{offerOf, goalOf}
+use Rattle.proof_rules.specs.Rules.{offerOf}
+use Rattle.proof_check.specs.Answers.{goalOf}
 use Rattle.unifier.specs.Compare.{Compares}
 use Rattle.unifier.specs.Class.{Classifies}
 use Rattle.unifier.specs.Check.{Checks}
@@ -23,8 +24,8 @@ use Rattle.unifier.specs.declared.Outcome.{Outcome}
 use Rattle.unifier.specs.declared.Compared.{Compared}
 use Rattle.unifier.specs.declared.Classified.{Classified}
 use Rattle.unifier.specs.declared.Checked.{Checked}
-use Rattle.unifier.specs.declared.OfferAsked.{OfferAsked}
-use Rattle.unifier.specs.declared.GoalAsked.{GoalAsked}
+use Rattle.proof_rules.specs.declared.OfferAsked.{OfferAsked}
+use Rattle.proof_check.specs.declared.GoalAsked.{GoalAsked}
 use Rattle.proof_file.specs.File.{fileRefusal, linesIn}
 use Rattle.proof_file.specs.Contracts.{readReply, Writes}
 use Rattle.proof_file.specs.declared.WriteReply.{WriteReply}

@@ -19,7 +19,7 @@ abbrev pub limit : ℕ → ℕ
 limit zero = 10
 limit (suc k) = limit k * 10
 
-tenth : (x n : ℕ) → x < n * 10 → x / 10 < n
+pub tenth : (x n : ℕ) → x < n * 10 → x / 10 < n
 tenth x n h = let p : 0 < 10 = omega arith in div-lt-iff-lt-mul p .1 h
 
 fuel : (k x : ℕ) → x < limit k → decimalBy (suc k) x ≡ decimalBy k x

@@ -3,6 +3,8 @@
 --   Puts     bytes were put there; the reply is the place after them
 --   meant    an answer with the names cited beside it
 --   Says     an answer's text from place 0 on
+--   answerRoom   bytes that hold every answer: a word of at most 7 letters, two numbers or one and 8,192 names, each of at most 6 bytes
+--                with its space, and the line break
 use mathlib.Core.Path.{_≡_}
 use mathlib.Core.List.{List, _++_}
 use Prim.Native.Nat.{ℕ, _+_, _<_}
@@ -44,6 +46,9 @@ Small (says.Unreadable i) = i < 100000
 
 abbrev pub Says : Output → List ℕ → List ℕ → ℕ → Type 0
 Says a before after next = Puts before 0 (textOf a) after next
+
+abbrev pub answerRoom : ℕ
+answerRoom = 49184
 
 -- the digits of a number, at the end of five bytes
 pub record DigitsShow (x : ℕ) (d : Digits) : Type 0 where

@@ -52,7 +52,7 @@ fn digits_of(n: u32) -> Digits
 }
 
 // The bytes of `word` from `from` on.
-pub fn put_word(out: &mut [u8], at: usize, word: &[u8], from: usize) -> usize
+fn put_word(out: &mut [u8], at: usize, word: &[u8], from: usize) -> usize
     requires { ⌜ (from ≤ length (now word)) × (at + (length (now word) - from) ≤ length (now out)) ⌝ }
     ensures { λ r. ⌜ Puts (now (out .entry)) at (drop from (now (word .entry))) (now (out .exit)) r ⌝ }
 {
@@ -84,20 +84,12 @@ fn put_decimal(out: &mut [u8], at: usize, n: u32) -> usize
 }
 
 // A number after a space.
-pub fn put_number(out: &mut [u8], at: usize, n: u32) -> usize
+fn put_number(out: &mut [u8], at: usize, n: u32) -> usize
     requires { ⌜ (n < 100000) × (at + 6 ≤ length (now out)) ⌝ }
     ensures { λ r. ⌜ Puts (now (out .entry)) at (spaced (n ∷ [])) (now (out .exit)) r ⌝ }
 {
     let e = put(out, at, b' ');
     put_decimal(out, e, n)
-}
-
-// The line break that ends a reply.
-pub fn put_end(out: &mut [u8], at: usize) -> usize
-    requires { ⌜ at < length (now out) ⌝ }
-    ensures { λ r. ⌜ Puts (now (out .entry)) at (10 ∷ []) (now (out .exit)) r ⌝ }
-{
-    put(out, at, 10)
 }
 
 // Name `j` of `n`.
@@ -148,7 +140,7 @@ fn line<'a>(out: &mut [u8], word: &'a [u8], names: &'a [u16], n: usize) -> usize
 {
     let a = put_word(out, 0, word, 0);
     let b = put_names(out, a, names, n);
-    put_end(out, b)
+    put(out, b, b'\n')
 }
 
 // The same with a number before the names.
@@ -158,7 +150,7 @@ fn line_with<'a>(out: &mut [u8], word: &'a [u8], x: u32, names: &'a [u16], n: us
 {
     let a = put_word(out, 0, word, 0);
     let b = put_headed(out, a, x, names, n);
-    put_end(out, b)
+    put(out, b, b'\n')
 }
 
 // A word, two numbers, and the line break.
@@ -168,7 +160,7 @@ fn line_pair<'a>(out: &mut [u8], word: &'a [u8], x: u32, y: u32) -> usize
 {
     let a = put_word(out, 0, word, 0);
     let b = put_pair(out, a, x, y);
-    put_end(out, b)
+    put(out, b, b'\n')
 }
 
 // A reply's line, with the first `n` names where it cites some; its length.

@@ -20,6 +20,7 @@ use Rattle.eqtrace_answers.specs.Puts.{meant, Small, Says}
 use Rattle.eqtrace_answers.specs.declared.Answer.{Answer as Code}
 use Rattle.unifier.specs.declared.Outcome.{Outcome}
 use Rattle.unifier.specs.Answers.{Answers}
+use Rattle.graph.specs.Limits.{lineLimit}
 use Rattle.graph.specs.State.{functor}
 use Rattle.graph.specs.Book as book
 use Rattle.eqtrace_carry.specs.Carried.{plainly}
@@ -61,7 +62,7 @@ pub record Means (says : List ℕ → Output) (r : Code) : Type 0 where
   pub means : (ns : List ℕ) → meant r ns ≡ says ns
 
 pub record CitesIn (n : ℕ) (bytes names : List ℕ) (k : ℕ) : Type 0 where
-  pub few : k ≤ 8192
+  pub few : k ≤ lineLimit
   pub none : n ≡ 0 → k ≡ 0
   pub some : 1 ≤ n → CitedRising (firstLines n bytes) names k
 

@@ -6,9 +6,10 @@ ghost use mathlib.Core.List.{List};
 ghost use mathlib.Core.Option.{none, some};
 ghost use Prim.Native.Nat.{ℕ, _*_, _≤_, _<_};
 ghost use lib.ListN.{length, take};
+ghost use Rattle.graph.specs.Limits.{lineLimit, bufferBytes};
 ghost use Rattle.eqtrace_orders.specs.Grammar.{orderOf};
 ghost use Rattle.eqtrace_orders.specs.Grammar as order;
-ghost use Rattle.eqtrace_answers.specs.Puts.{Small};
+ghost use Rattle.eqtrace_answers.specs.Puts.{Small, answerRoom};
 ghost use Rattle.eqtrace_carry.specs.Carried.{Carries};
 ghost use Rattle.eqtrace_carry.specs.Inner.{replyLines, comparisonLines, answered, comparisonAnswered, Means, CitesIn, Telling, Replying, Declares};
 use eqtrace_answers::Answer;
@@ -79,7 +80,7 @@ fn comparison_lines(reply: Comparison) -> usize
 
 // The names that the last of `n` lines rests on, none where there is no line.
 fn cite<'a>(proof: &'a [u8], n: usize, names: &mut [u16]) -> usize
-    requires { ⌜ (8 * n ≤ length (now proof)) × (n ≤ 8192) × (length (now names) ≡ 8192) ⌝ }
+    requires { ⌜ (8 * n ≤ length (now proof)) × (n ≤ lineLimit) × (length (now names) ≡ lineLimit) ⌝ }
     ensures { λ r. ⌜ CitesIn n (now (proof .entry)) (now (names .exit)) r ⌝ }
 {
     if n == 0 {
@@ -98,7 +99,7 @@ fn tell<'a>(
     names: &mut [u16],
     out: &mut [u8],
 ) -> Carried
-    requires { ⌜ Small answer × (8 * n ≤ length (now proof)) × (n ≤ 8192) × (length (now names) ≡ 8192) × (49184 ≤ length (now out)) ⌝ }
+    requires { ⌜ Small answer × (8 * n ≤ length (now proof)) × (n ≤ lineLimit) × (length (now names) ≡ lineLimit) × (answerRoom ≤ length (now out)) ⌝ }
     ensures { λ r. ⌜ Telling w answer n (now (proof .entry)) (now (out .entry)) (now (out .exit)) r ⌝ }
 {
     let k = cite(proof, n, names);
@@ -111,7 +112,7 @@ fn tell<'a>(
 
 // What is said of a call that writes no proof.
 fn tell_reply(o: Outcome, name: u16, names: &mut [u16], out: &mut [u8]) -> Carried
-    requires { ⌜ (length (now names) ≡ 8192) × (49184 ≤ length (now out)) ⌝ }
+    requires { ⌜ (length (now names) ≡ lineLimit) × (answerRoom ≤ length (now out)) ⌝ }
     ensures { λ r. ⌜ Replying o name (now (out .entry)) (now (out .exit)) r ⌝ }
 {
     let reply = o.reply;
@@ -122,14 +123,14 @@ fn tell_reply(o: Outcome, name: u16, names: &mut [u16], out: &mut [u8]) -> Carri
 
 // The answer to an order that can't be read.
 pub fn unreadable(w: Workspace, i: u32, names: &mut [u16], out: &mut [u8]) -> Carried
-    requires { ⌜ (i < 100000) × (length (now names) ≡ 8192) × (49184 ≤ length (now out)) ⌝ }
+    requires { ⌜ (i < 100000) × (length (now names) ≡ lineLimit) × (answerRoom ≤ length (now out)) ⌝ }
     ensures { λ r. ⌜ ((proof : List ℕ) → Carries w i none proof proof (now (out .entry)) (now (out .exit)) r) ⌝ }
 {
     tell(w, Answer::Unreadable(i), 0, b"", names, out)
 }
 
 fn carry_variable(w: Workspace, names: &mut [u16], out: &mut [u8]) -> Carried
-    requires { ⌜ (length (now names) ≡ 8192) × (49184 ≤ length (now out)) ⌝ }
+    requires { ⌜ (length (now names) ≡ lineLimit) × (answerRoom ≤ length (now out)) ⌝ }
     ensures { λ r. ⌜ ((i : ℕ) (proof : List ℕ) → Carries w i (some order.variable) proof proof (now (out .entry)) (now (out .exit)) r) ⌝ }
 {
     let o = w.declare_variable();
@@ -145,7 +146,7 @@ fn carry_functor<'a>(
     names: &mut [u16],
     out: &mut [u8],
 ) -> Carried
-    requires { ⌜ (k ≤ length (now children)) × (length (now names) ≡ 8192) × (49184 ≤ length (now out)) ⌝ }
+    requires { ⌜ (k ≤ length (now children)) × (length (now names) ≡ lineLimit) × (answerRoom ≤ length (now out)) ⌝ }
     ensures { λ r. ⌜ Declares w symbol (take k (now (children .entry))) (now (out .entry)) (now (out .exit)) r ⌝ }
 {
     let o = w.declare_functor(symbol, &children[0..k]);
@@ -153,7 +154,7 @@ fn carry_functor<'a>(
 }
 
 fn carry_withdraw(w: Workspace, name: u16, names: &mut [u16], out: &mut [u8]) -> Carried
-    requires { ⌜ (length (now names) ≡ 8192) × (49184 ≤ length (now out)) ⌝ }
+    requires { ⌜ (length (now names) ≡ lineLimit) × (answerRoom ≤ length (now out)) ⌝ }
     ensures { λ r. ⌜ ((i : ℕ) (proof : List ℕ) → Carries w i (some (order.withdraw name)) proof proof (now (out .entry)) (now (out .exit)) r) ⌝ }
 {
     let o = w.withdraw(name);
@@ -169,7 +170,7 @@ fn carry_equate(
     names: &mut [u16],
     out: &mut [u8],
 ) -> Carried
-    requires { ⌜ (length (now proof) ≡ 65536) × (length (now names) ≡ 8192) × (49184 ≤ length (now out)) ⌝ }
+    requires { ⌜ (length (now proof) ≡ bufferBytes) × (length (now names) ≡ lineLimit) × (answerRoom ≤ length (now out)) ⌝ }
     ensures { λ r. ⌜ ((i : ℕ) → Carries w i (some (order.equate name left right)) (now (proof .entry)) (now (proof .exit)) (now (out .entry)) (now (out .exit)) r) ⌝ }
 {
     let o = w.equate(name, left, right, proof);
@@ -188,7 +189,7 @@ fn carry_query(
     names: &mut [u16],
     out: &mut [u8],
 ) -> Carried
-    requires { ⌜ (length (now proof) ≡ 65536) × (length (now names) ≡ 8192) × (49184 ≤ length (now out)) ⌝ }
+    requires { ⌜ (length (now proof) ≡ bufferBytes) × (length (now names) ≡ lineLimit) × (answerRoom ≤ length (now out)) ⌝ }
     ensures { λ r. ⌜ ((i : ℕ) → Carries w i (some (order.query x y)) (now (proof .entry)) (now (proof .exit)) (now (out .entry)) (now (out .exit)) r) ⌝ }
 {
     let o = w.compare(x, y, proof);
@@ -208,7 +209,7 @@ pub fn carry_out<'a>(
     names: &mut [u16],
     out: &mut [u8],
 ) -> Carried
-    requires { ⌜ (i < 100000) × (length (now proof) ≡ 65536) × (length (now names) ≡ 8192) × (49184 ≤ length (now out)) ⌝ }
+    requires { ⌜ (i < 100000) × (length (now proof) ≡ bufferBytes) × (length (now names) ≡ lineLimit) × (answerRoom ≤ length (now out)) ⌝ }
     ensures { λ r. ⌜ Carries w i (orderOf (now (line .entry))) (now (proof .entry)) (now (proof .exit)) (now (out .entry)) (now (out .exit)) r ⌝ }
 {
     let p = eqtrace_orders::parse(line);

@@ -9,7 +9,8 @@ use native.Mathlib.Nat.{eq-or-lt-of-le}
 use native.Mathlib.Omega.{arith}
 use lib.ListN.{length, getD, drop, drop-of-length-le, length-append, List·getD-append}
 use lib.Seq.{drop-drop, getD-at}
-use Rattle.eqtrace_orders.specs.Grammar.{numberOf, numbersOf, split, try}
+use Rattle.graph.specs.Lines.{try}
+use Rattle.eqtrace_orders.specs.Grammar.{numberOf, numbersOf, split}
 use Rattle.eqtrace_orders.specs.Scan.{firstWord, numberAt, IsNumber, KeepsOne, Collects}
 use Rattle.eqtrace_orders.specs.declared.Numbers.{Numbers}
 use Rattle.eqtrace_orders.specs.declared.Scanned.{Scanned}

@@ -8,7 +8,8 @@ use native.Mathlib.Omega.{arith}
 use lib.ListN.{length, getD, take, drop}
 use lib.Dec.{eqb, ltb}
 use borrow.Author.Tests.{ne-eqb, eqb-true, lt-ltb}
-use Rattle.eqtrace_orders.specs.Grammar.{Order, onFirst, split, try, numberOf, numbersOf, byLetter, wordsAs, orderOf}
+use Rattle.graph.specs.Lines.{try}
+use Rattle.eqtrace_orders.specs.Grammar.{Order, onFirst, split, numberOf, numbersOf, byLetter, wordsAs, orderOf}
 use Rattle.eqtrace_orders.specs.Scan.{firstWord, Collected, CollectedOr, Collects}
 use Rattle.eqtrace_orders.specs.Parse.{firstFive, Gives, Parses, ByLetter}
 use Rattle.eqtrace_orders.specs.declared.Numbers.{Numbers}

@@ -9,6 +9,7 @@ use mathlib.Core.List.{List, [], _∷_}
 use mathlib.Core.Option.{Option, none, some}
 use Prim.Native.Nat.{ℕ, _+_, _-_, _*_}
 use lib.Dec.{eqb, leb}
+use Rattle.graph.specs.Lines.{try}
 
 pub data Order : Type 0 where
   variable : Order
@@ -44,10 +45,6 @@ abbrev pub numberOf : List ℕ → Option ℕ
 numberOf [] = none
 numberOf (x ∷ []) = digitsFrom 0 (x ∷ [])
 numberOf (x ∷ (y ∷ ys)) = cond (eqb x 48) none (digitsFrom 0 (x ∷ (y ∷ ys)))
-
-abbrev pub try : {A B : Type 0} → Option A → (A → Option B) → Option B
-try none f = none
-try (some a) f = f a
 
 abbrev pub numbersOf : List (List ℕ) → Option (List ℕ)
 numbersOf [] = some []

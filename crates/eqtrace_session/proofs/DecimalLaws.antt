@@ -4,13 +4,14 @@ use mathlib.Core.Bool.{Bool, true, false, _&&_, cond}
 use mathlib.Core.List.{List, [], _∷_, _++_}
 use mathlib.Core.Option.{Option, none, some}
 use Prim.Native.Nat.{ℕ, zero, suc, _+_, _-_, _*_, _/_, _%_, _≤_, _<_}
-use native.Mathlib.Nat.{div-lt-iff-lt-mul, div-add-mod', mod-lt}
+use native.Mathlib.Nat.{div-add-mod', mod-lt}
 use native.Mathlib.Omega.{arith}
 use lib.Dec.{ltb, leb}
 use borrow.Author.Tests.{le-leb, ne-eqb, ltb-true, ltb-false}
-use Rattle.eqtrace_orders.specs.Grammar.{isDigit, digitsFrom, numberOf, try}
+use Rattle.graph.specs.Lines.{try}
+use Rattle.eqtrace_orders.specs.Grammar.{isDigit, digitsFrom, numberOf}
 use Rattle.eqtrace_answers.specs.Text.{decimalBy, decimal}
-use Rattle.eqtrace_answers.proofs.DigitLaws.{limit}
+use Rattle.eqtrace_answers.proofs.DigitLaws.{limit, tenth}
 
 -- one digit more
 abbrev more : ℕ → ℕ → Option ℕ
@@ -32,9 +33,6 @@ digit-read u x h l =
 
 one-read : (x : ℕ) → x < 10 → digitsFrom 0 ((48 + x) ∷ []) ≡ some x
 one-read x h = let e : 0 * 10 + x ≡ x = omega arith in digit-read 0 x h (omega arith) ∙ ap some e
-
-tenth : (x n : ℕ) → x < n * 10 → x / 10 < n
-tenth x n h = let p : 0 < 10 = omega arith in div-lt-iff-lt-mul p .1 h
 
 read : (k x : ℕ) → x < limit k → x ≤ 65535 → digitsFrom 0 (decimalBy k x) ≡ some x
 read zero x h l = one-read x h

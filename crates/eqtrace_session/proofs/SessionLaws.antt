@@ -1,11 +1,11 @@
 -- A list of orders is answered as the book answers it.
 use mathlib.Core.Path.{_≡_, refl, sym, ap, _∙_, subst}
-use mathlib.Core.List.{List, [], _∷_, _++_, map}
+use mathlib.Core.List.{List, map}
 use mathlib.Core.Option.{Option, none, some}
 use Prim.Native.Nat.{ℕ, _+_}
-use native.Mathlib.Omega.{arith}
 use lib.ListN.{length}
 use Rattle.graph.specs.State.{State, emptyState, equationOf, variable, functor}
+use Rattle.graph.specs.Limits.{bufferBytes}
 use Rattle.graph.specs.Book as book
 use Rattle.unifier.specs.Views.{Valid, stateOf, packed}
 use Rattle.unifier.specs.Replies.{said}
@@ -17,12 +17,12 @@ use Rattle.unifier.specs.declared.Reply.{Reply}
 use Rattle.unifier.specs.declared.Reply.the-variants.{Node, Held, Gone, Refused, Clash, Cycle}
 use Rattle.unifier.specs.declared.Comparison.{Comparison}
 use Rattle.unifier.specs.declared.Comparison.the-variants as stands
-use Rattle.unifier.proofs.PackedLaws.{repacked, unpacked, fresh-valid, fresh-state}
+use Rattle.unifier.proofs.PackedLaws.{repacked, packed-lists, fresh-valid, fresh-state}
 use Rattle.eqtrace_orders.specs.Grammar.{Order, orderOf}
 use Rattle.eqtrace_orders.specs.Grammar as order
 use Rattle.eqtrace_answers.specs.Text.{Output}
 use Rattle.eqtrace_carry.specs.Carried.{plainly, Spoken, Stated, Does}
-use Rattle.eqtrace_session.specs.Program.{forget, spoken, Calls, Stance, QueryReplies, BookAnswers, BookAnswersAll, Session, Orders}
+use Rattle.eqtrace_session.specs.Program.{forget, spoken, Calls, QueryReplies, BookAnswers, BookAnswersAll, Session, Orders}
 use Rattle.eqtrace_session.specs.Program as told
 
 -- ---- one order
@@ -43,7 +43,7 @@ spoken-said x bytes (Refused k) a h = ap forget h
 spoken-said x bytes (Clash n) a h = ap forget (h .answer)
 spoken-said x bytes (Cycle n) a h = ap forget (h .answer)
 
-stated-stance : (w : State) (u v : ℕ) (before after : List ℕ) (r : Comparison) (a : Output) → compare.Stands w u v before after r → Stated after r a → Stance w u v (forget a)
+stated-stance : (w : State) (u v : ℕ) (before after : List ℕ) (r : Comparison) (a : Output) → compare.Stands w u v before after r → Stated after r a → QueryReplies none w u v (forget a)
 stated-stance w u v before after (stands.Same n) a (compare.same p q) h = rw (h .answer) (told.is-same p)
 stated-stance w u v before after (stands.Below n) a (compare.below m p q) h = rw (h .answer) (told.lies-below m p)
 stated-stance w u v before after (stands.Above n) a (compare.above m k p q) h = rw (h .answer) (told.lies-above m k p)
@@ -61,9 +61,6 @@ pub record Step (s : State) (i : ℕ) (o : Option Order) (a : Output) (v : Works
   pub workspace : v ≡ packed state
   pub valid : Valid v
 
-pub packed-lists : (s : State) (w : Workspace) → w ≡ packed s → Valid w → stateOf w ≡ s
-packed-lists s w p v = ap stateOf p ∙ unpacked s (subst Valid p v)
-
 module _ (w : Workspace) (ok : Valid w) (i : ℕ) where
   -- a call that gives an `Outcome`
   module _ (c : book.Call) (x : ℕ) (a : Output) (v : Workspace) (o : Outcome) (A : Answers w c o) (h : forget a ≡ spoken x (said (o .reply))) (q : v ≡ o .workspace) where
@@ -80,22 +77,22 @@ module _ (w : Workspace) (ok : Valid w) (i : ℕ) where
   unchanged : (t : Option Order) (a : Output) (v : Workspace) → v ≡ w → BookAnswers (stateOf w) i t (forget a) (stateOf w) → Step (stateOf w) i t a v
   unchanged t a v q k = record { state = stateOf w; tells = k; workspace = q ∙ repacked w (ok .shape); valid = subst Valid (sym q) ok }
 
-  pub step : (t : Option Order) (before after : List ℕ) (a : Output) (v : Workspace) → length before ≡ 65536 → Does w i t before after a v → Step (stateOf w) i t a v
+  pub step : (t : Option Order) (before after : List ℕ) (a : Output) (v : Workspace) → length before ≡ bufferBytes → Does w i t before after a v → Step (stateOf w) i t a v
   step none before after a v n d = unchanged none a v (d .workspace) (ap forget (d .said), refl)
   step (some order.variable) before after a v n d =
       by-call (book.declare variable) 0 a v (d .outcome) (d .answers) (ap forget (d .said) ∙ plainly-said 0 (d .outcome .reply)) (d .workspace) (some order.variable) (λ k. k)
   step (some (order.functor f cs)) before after a v n d =
       by-call (book.declare (functor f cs)) 0 a v (d .outcome) (d .answers) (ap forget (d .said) ∙ plainly-said 0 (d .outcome .reply)) (d .workspace) (some (order.functor f cs)) (λ k. k)
   step (some (order.equate m x y)) before after a v n d =
-      let e : Answers w (book.equate (equationOf m x y) 65536) (d .outcome) = subst (λ (k : ℕ). Answers w (book.equate (equationOf m x y) k) (d .outcome)) n (d .equates .answers) in
-      by-call (book.equate (equationOf m x y) 65536) m a v (d .outcome) e (spoken-said m after (d .outcome .reply) a (d .said)) (d .workspace) (some (order.equate m x y)) (λ k. k)
+      let e : Answers w (book.equate (equationOf m x y) bufferBytes) (d .outcome) = subst (λ (k : ℕ). Answers w (book.equate (equationOf m x y) k) (d .outcome)) n (d .equates .answers) in
+      by-call (book.equate (equationOf m x y) bufferBytes) m a v (d .outcome) e (spoken-said m after (d .outcome .reply) a (d .said)) (d .workspace) (some (order.equate m x y)) (λ k. k)
   step (some (order.withdraw m)) before after a v n d =
       by-call (book.withdraw m) m a v (d .outcome) (d .answers) (ap forget (d .said) ∙ plainly-said m (d .outcome .reply)) (d .workspace) (some (order.withdraw m)) (λ k. k)
   step (some (order.query x y)) before after a v n d =
-      let r : compare.Replies (compare.refusalOf (stateOf w) x y 65536) (stateOf w) x y before after (d .compared .reply) =
+      let r : compare.Replies (compare.refusalOf (stateOf w) x y bufferBytes) (stateOf w) x y before after (d .compared .reply) =
       subst (λ (k : ℕ). compare.Replies (compare.refusalOf (stateOf w) x y k) (stateOf w) x y before after (d .compared .reply)) n (d .compares .replies ok) in
       unchanged (some (order.query x y)) a v (d .workspace ∙ d .compares .workspace)
-      (stated-compares (compare.refusalOf (stateOf w) x y 65536) (stateOf w) x y before after (d .compared .reply) a r (d .said), refl)
+      (stated-compares (compare.refusalOf (stateOf w) x y bufferBytes) (stateOf w) x y before after (d .compared .reply) a r (d .said), refl)
 
 -- ---- a list of orders
 

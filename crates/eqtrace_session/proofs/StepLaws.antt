@@ -7,9 +7,10 @@ use Prim.Native.Nat.{ℕ, _+_, _≤_, _<_}
 use native.Mathlib.Omega.{arith}
 use lib.ListN.{length, take, drop, length-append}
 use lib.Seq.{take-append-seam}
+use Rattle.graph.specs.Limits.{bufferBytes}
 use Rattle.unifier.specs.declared.Workspace.{Workspace}
 use Rattle.eqtrace_answers.specs.Text.{Output, unreadable, wordOf, textOf}
-use Rattle.eqtrace_answers.specs.Puts.{Puts, Says}
+use Rattle.eqtrace_answers.specs.Puts.{Puts, Says, answerRoom}
 use Rattle.eqtrace_session.specs.Steps.{cursorAt, leftOf, TooLong, StepsBy, Steps}
 use Rattle.eqtrace_carry.specs.Carried.{Carries}
 use Rattle.eqtrace_carry.specs.declared.Carried.{Carried}
@@ -39,7 +40,7 @@ said-too-long w end i old new t C = record {
 }
 
 pub steps-at : (c : Cursor) (input before after old new : List ℕ) (r : Stepped) (l : Left) → l ≡ leftOf input (c .at) (c .number) → StepsBy l c input before after old new r
-    → length before ≡ 65536 → length new ≡ 49184 → Steps c input before after old new r
+    → length before ≡ bufferBytes → length new ≡ answerRoom → Steps c input before after old new r
 steps-at c input before after old new r l e s p t = record { step = rw (← e) s; proof-size = p; text-size = t }
 
 -- ---- a step as the program's loop sees it

@@ -4,6 +4,7 @@ use mathlib.Core.Bool.{Bool, true, false}
 use mathlib.Core.List.{List, _∷_}
 use mathlib.Core.Option.{Option, none, some}
 use Prim.Native.Nat.{ℕ, _+_}
+use Rattle.graph.specs.Limits.{bufferBytes}
 use Rattle.graph.specs.State.{State, variable, functor, equationOf}
 use Rattle.graph.specs.Book as book
 use Rattle.graph.proofs.BookLaws.{answer-unique}
@@ -14,7 +15,7 @@ use Rattle.eqtrace_answers.specs.Text.{Output}
 use Rattle.eqtrace_session.specs.Program.{spoken, Calls, Stance, is-same, lies-below, lies-above, is-apart, QueryReplies, BookAnswers, BookAnswersAll, over, next}
 use Rattle.eqtrace_session.specs.Transcript.{tooLong, ToldBy, Told}
 
-stance-unique : {s : State} {u v : ℕ} {a b : Output} → Stance s u v a → Stance s u v b → a ≡ b
+pub stance-unique : {A : Type 0} {s : State} {u v : ℕ} {x y z t a b : A} → Stance s u v x y z t a → Stance s u v x y z t b → a ≡ b
 stance-unique (is-same p) (is-same q) = refl
 stance-unique (is-same p) (lies-below n q) = absurd (n p)
 stance-unique (is-same p) (lies-above n m q) = absurd (n p)
@@ -45,9 +46,9 @@ pub tells-unique : (s : State) (i : ℕ) (o : Option Order) (a b : Output) (d e 
 tells-unique s i none a b d e p q = (p .0 ∙ sym (q .0), p .1 ∙ sym (q .1))
 tells-unique s i (some order.variable) a b d e p q = calls-unique s (book.declare variable) 0 a b d e p q
 tells-unique s i (some (order.functor f cs)) a b d e p q = calls-unique s (book.declare (functor f cs)) 0 a b d e p q
-tells-unique s i (some (order.equate n u v)) a b d e p q = calls-unique s (book.equate (equationOf n u v) 65536) n a b d e p q
+tells-unique s i (some (order.equate n u v)) a b d e p q = calls-unique s (book.equate (equationOf n u v) bufferBytes) n a b d e p q
 tells-unique s i (some (order.withdraw n)) a b d e p q = calls-unique s (book.withdraw n) n a b d e p q
-tells-unique s i (some (order.query u v)) a b d e p q = (compares-unique (refusalOf s u v 65536) s u v a b (p .0) (q .0), p .1 ∙ sym (q .1))
+tells-unique s i (some (order.query u v)) a b d e p q = (compares-unique (refusalOf s u v bufferBytes) s u v a b (p .0) (q .0), p .1 ∙ sym (q .1))
 
 -- a list of orders has one list of answers, and leads to one state
 pub tells-all-unique : {s d e : State} {i : ℕ} {lines : List (List ℕ)} {xs ys : List Output} → BookAnswersAll s i lines xs d → BookAnswersAll s i lines ys e → (xs ≡ ys) × (d ≡ e)

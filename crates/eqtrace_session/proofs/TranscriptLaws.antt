@@ -10,6 +10,7 @@ use borrow.Author.Tests.{leb-true, ltb-true, ltb-false}
 use Rattle.unifier.specs.Views.{Valid, packed}
 use Rattle.unifier.specs.declared.Workspace.{Workspace}
 use Rattle.unifier.proofs.PackedLaws.{fresh-valid, fresh-packed}
+use Rattle.graph.specs.Limits.{bufferBytes}
 use Rattle.graph.specs.State.{State, emptyState}
 use Rattle.eqtrace_orders.specs.Grammar.{ordersIn}
 use Rattle.eqtrace_orders.proofs.InputLaws.{orders-at, orders-end}
@@ -17,7 +18,7 @@ use Rattle.eqtrace_answers.specs.Text.{Output, unreadable, textOf}
 use Rattle.eqtrace_answers.specs.Puts.{Says}
 use Rattle.eqtrace_session.specs.Program.{forget, Session}
 use Rattle.eqtrace_session.specs.Program as told
-use Rattle.eqtrace_session.specs.Transcript.{textsOf, tooLong, AnswersBy, AnswersTo, ToldBy, Printed, Finished}
+use Rattle.eqtrace_session.specs.Transcript.{textsOf, inputLimit, tooLong, AnswersBy, AnswersTo, ToldBy, Printed, Finished}
 use Rattle.eqtrace_session.specs.Steps.{cursorAt, beginning, leftOf, TooLong, StepsBy, Steps, Run, begun, stepped, Transcript}
 use Rattle.eqtrace_session.specs.declared.Cursor.{Cursor}
 use Rattle.eqtrace_session.specs.declared.Left.{Left}
@@ -53,7 +54,7 @@ record Reached (input output : List ℕ) (c : Cursor) : Type 0 where
 
 begun-rest : (b d : Bool) (input : List ℕ) → tooLong input ≡ b → leb (length input) 0 ≡ d → (answers : List Output) (w : Workspace)
     → RestBy (cond d left.Nothing (cond b left.TooLong left.Order)) input beginning answers w → AnswersBy b input answers w
-begun-rest true true input e l answers w r = absurd (omega (arith, ltb-true 65536 (length input) e, leb-true (length input) 0 l))
+begun-rest true true input e l answers w r = absurd (omega (arith, ltb-true inputLimit (length input) e, leb-true (length input) 0 l))
 begun-rest false true input e l answers w r =
     let o : ordersIn input ≡ [] = orders-end input 0 (leb-true (length input) 0 l) in
     rw (o, r .0, r .1) told.over
@@ -91,14 +92,14 @@ module _ (input output : List ℕ) (c : Cursor) (R : Reached input output c) (be
       let b = within input (c .at) (c .number) left.TooLong e true refl in
       let d : Cursor = cursorAt (c .workspace) (length input) (c .number) in
       let l : leftOf input (length input) (c .number) ≡ left.Nothing = sym (left-nothing input (length input) (c .number) (omega arith)) in
-      more-answer (unreadable 0) d (s .0 .cursor) (s .0 .says) (omega (arith, b .number, ltb-true 65536 (length input) (b .long)))
+      more-answer (unreadable 0) d (s .0 .cursor) (s .0 .says) (omega (arith, b .number, ltb-true inputLimit (length input) (b .long)))
       (λ answers w h. let g : RestBy left.Nothing input d answers w = subst (λ (x : Left). RestBy x input d answers w) l h in
       subst (λ (x : Left). RestBy x input c (unreadable 0 ∷ answers) w) (sym e) (ap (λ (x : List Output). unreadable 0 ∷ x) (g .0), g .1))
 
-  more-order : leftOf input (c .at) (c .number) ≡ left.Order → length before ≡ 65536 → StepsBy left.Order c input before after old new r → Reached input (output ++ take (r .length) new) (r .cursor)
+  more-order : leftOf input (c .at) (c .number) ≡ left.Order → length before ≡ bufferBytes → StepsBy left.Order c input before after old new r → Reached input (output ++ take (r .length) new) (r .cursor)
   more-order e n s =
       let b = within input (c .at) (c .number) left.Order e false refl in
-      let short : length input ≤ 65536 = ltb-false 65536 (length input) (b .long) in
+      let short : length input ≤ inputLimit = ltb-false inputLimit (length input) (b .long) in
       let w′ : Workspace = s .carried .workspace in
       let line : List ℕ = take (s .end - c .at) (drop (c .at) input) in
       let placed : c .number + 1 ≤ s .end + 1 + 1 = omega (arith, R .placed, s .ends .end-at) in
@@ -107,10 +108,10 @@ module _ (input output : List ℕ) (c : Cursor) (R : Reached input output c) (be
       (λ answers w h. let g : Session w′ (c .number + 1) (ordersIn (drop (s .end + 1) input)) answers w = rest-orders w′ (s .end + 1) (c .number + 1) short placed answers w (leftOf input (s .end + 1) (c .number + 1)) refl h in
       subst (λ (x : Left). RestBy x input c (s .carries .answer ∷ answers) w) (sym e) (rw o (told.next before after n (s .carries .does) g)))
     where
-      rest-orders : (v : Workspace) (at i : ℕ) → length input ≤ 65536 → i ≤ at + 1 → (answers : List Output) (w : Workspace) (l : Left) → leftOf input at i ≡ l
+      rest-orders : (v : Workspace) (at i : ℕ) → length input ≤ inputLimit → i ≤ at + 1 → (answers : List Output) (w : Workspace) (l : Left) → leftOf input at i ≡ l
           → RestBy l input (cursorAt v at i) answers w → Session v i (ordersIn (drop at input)) answers w
       rest-orders v at i short placed answers w left.Nothing q h = rw (orders-end input at (left-over input at i q short placed), h .0, h .1) told.over
-      rest-orders v at i short placed answers w left.TooLong q h = let b = within input at i left.TooLong q true refl in absurd (omega (arith, ltb-true 65536 (length input) (b .long), short))
+      rest-orders v at i short placed answers w left.TooLong q h = let b = within input at i left.TooLong q true refl in absurd (omega (arith, ltb-true inputLimit (length input) (b .long), short))
       rest-orders v at i short placed answers w left.Order q h = h
 
   reached-more : Steps c input before after old new r → Reached input (output ++ take (r .length) new) (r .cursor)

@@ -1,7 +1,7 @@
 -- The book's answer to an order and to a list of orders, cited names aside, and the claim about every list of orders.
 --   forget     an answer without its names
 --   spoken     the book's reply to a call, as an answer
---   Stance     how two nodes stand in the closure of the book's equations
+--   Stance     how two nodes stand in the closure of the book's equations, by what is said of the same, below, above and apart
 --   BookAnswers      the book's answer to an order and its two lists afterwards; an order that can't be read, and a query, leave them
 --   BookAnswersAll   the same for a list of orders, counted from i
 --   Session    what carrying out a list of orders may give: each order's contract and nothing else
@@ -11,6 +11,7 @@ use mathlib.Core.List.{List, [], _∷_, map}
 use mathlib.Core.Option.{Option, none, some}
 use Prim.Native.Nat.{ℕ, _+_}
 use lib.ListN.{length}
+use Rattle.graph.specs.Limits.{bufferBytes}
 use Rattle.graph.specs.State.{State, emptyState, variable, functor, equationOf}
 use Rattle.graph.specs.Closure.{Same, Below}
 use Rattle.graph.specs.Book as book
@@ -47,24 +48,23 @@ pub record Calls (s : State) (c : book.Call) (x : ℕ) (a : Output) (d : State) 
   pub answer : a ≡ spoken x (book.answer s c number .reply)
   pub state : d ≡ book.answer s c number .state
 
-pub data Stance (s : State) (u v : ℕ) : Output → Type 0 where
-  is-same : Same s u v → Stance s u v (same [])
-  lies-below : (Same s u v → ⊥) → Below s u v → Stance s u v (below [])
-  lies-above : (Same s u v → ⊥) → (Below s u v → ⊥) → Below s v u → Stance s u v (above [])
-  is-apart : (Same s u v → ⊥) → (Below s u v → ⊥) → (Below s v u → ⊥) → Stance s u v apart
+pub data Stance {A : Type 0} (s : State) (u v : ℕ) (x y z t : A) : A → Type 0 where
+  is-same : Same s u v → Stance s u v x y z t x
+  lies-below : (Same s u v → ⊥) → Below s u v → Stance s u v x y z t y
+  lies-above : (Same s u v → ⊥) → (Below s u v → ⊥) → Below s v u → Stance s u v x y z t z
+  is-apart : (Same s u v → ⊥) → (Below s u v → ⊥) → (Below s v u → ⊥) → Stance s u v x y z t t
 
 abbrev pub QueryReplies : Option ℕ → State → ℕ → ℕ → Output → Type 0
-QueryReplies none s u v a = Stance s u v a
+QueryReplies none s u v a = Stance s u v (same []) (below []) (above []) apart a
 QueryReplies (some k) s u v a = a ≡ refused k []
 
--- the program's proof buffer has 65,536 bytes
 abbrev pub BookAnswers : State → ℕ → Option Order → Output → State → Type 0
 BookAnswers s i none a d = (a ≡ unreadable i) × (d ≡ s)
 BookAnswers s i (some order.variable) a d = Calls s (book.declare variable) 0 a d
 BookAnswers s i (some (order.functor f cs)) a d = Calls s (book.declare (functor f cs)) 0 a d
-BookAnswers s i (some (order.equate n u v)) a d = Calls s (book.equate (equationOf n u v) 65536) n a d
+BookAnswers s i (some (order.equate n u v)) a d = Calls s (book.equate (equationOf n u v) bufferBytes) n a d
 BookAnswers s i (some (order.withdraw n)) a d = Calls s (book.withdraw n) n a d
-BookAnswers s i (some (order.query u v)) a d = QueryReplies (refusalOf s u v 65536) s u v a × (d ≡ s)
+BookAnswers s i (some (order.query u v)) a d = QueryReplies (refusalOf s u v bufferBytes) s u v a × (d ≡ s)
 
 pub data BookAnswersAll : State → ℕ → List (List ℕ) → List Output → State → Type 0 where
   over : {s : State} {i : ℕ} → BookAnswersAll s i [] [] s
@@ -73,7 +73,7 @@ pub data BookAnswersAll : State → ℕ → List (List ℕ) → List Output → 
 
 pub data Session : Workspace → ℕ → List (List ℕ) → List Output → Workspace → Type 0 where
   over : {w : Workspace} {i : ℕ} → Session w i [] [] w
-  next : {w v u : Workspace} {i : ℕ} {line : List ℕ} {lines : List (List ℕ)} {a : Output} {answers : List Output} (before after : List ℕ) → length before ≡ 65536
+  next : {w v u : Workspace} {i : ℕ} {line : List ℕ} {lines : List (List ℕ)} {a : Output} {answers : List Output} (before after : List ℕ) → length before ≡ bufferBytes
       → Does w i (orderOf line) before after a v → Session v (i + 1) lines answers u → Session w i (line ∷ lines) (a ∷ answers) u
 
 pub record FollowsBook (lines : List (List ℕ)) (answers : List Output) (w : Workspace) : Type 0 where

@@ -11,15 +11,16 @@ use mathlib.Core.List.{List, [], _++_, map}
 use Prim.Native.Nat.{ℕ, _+_, _-_, _<_}
 use lib.ListN.{length, take, drop}
 use lib.Dec.{ltb, leb}
+use Rattle.graph.specs.Limits.{bufferBytes}
 use Rattle.unifier.specs.Views.{freshWorkspace}
 use Rattle.unifier.specs.declared.Workspace.{Workspace}
 use Rattle.eqtrace_orders.specs.Grammar.{orderOf}
 use Rattle.eqtrace_orders.specs.Input.{EndsAt}
 use Rattle.eqtrace_answers.specs.Text.{unreadable}
-use Rattle.eqtrace_answers.specs.Puts.{Says}
+use Rattle.eqtrace_answers.specs.Puts.{Says, answerRoom}
 use Rattle.eqtrace_carry.specs.Carried.{Carries}
 use Rattle.eqtrace_session.specs.Program.{forget}
-use Rattle.eqtrace_session.specs.Transcript.{tooLong, Printed}
+use Rattle.eqtrace_session.specs.Transcript.{inputLimit, tooLong, Printed}
 use Rattle.eqtrace_carry.specs.declared.Carried.{Carried}
 use Rattle.eqtrace_session.specs.declared.Cursor.{Cursor}
 use Rattle.eqtrace_session.specs.declared.Left.{Left}
@@ -32,9 +33,9 @@ cursorAt w at i = record { workspace = w; at = at; number = i }
 abbrev pub beginning : Cursor
 beginning = cursorAt freshWorkspace 0 1
 
--- no run comes to an order above 65,536: that clause serves cursors that no run gives
+-- no run comes to an order above the limit: that clause serves cursors that no run gives
 unfoldable pub leftOf : List ℕ → ℕ → ℕ → Left
-leftOf input at i = cond (leb (length input) at) left.Nothing (cond (ltb 65536 i) left.Nothing (cond (tooLong input) left.TooLong left.Order))
+leftOf input at i = cond (leb (length input) at) left.Nothing (cond (ltb inputLimit i) left.Nothing (cond (tooLong input) left.TooLong left.Order))
 
 pub record TooLong (w : Workspace) (end i : ℕ) (old new : List ℕ) (r : Stepped) : Type 0 where
   pub says : Says (unreadable 0) old new (r .length)
@@ -57,8 +58,8 @@ StepsBy left.Order c input before after old new r = OrderAt (c .workspace) input
 pub record Steps (c : Cursor) (input before after old new : List ℕ) (r : Stepped) : Type 0 where
   pub step : StepsBy (leftOf input (c .at) (c .number)) c input before after old new r
   -- the lent buffers have the lengths of their types
-  pub proof-size : length before ≡ 65536
-  pub text-size : length new ≡ 49184
+  pub proof-size : length before ≡ bufferBytes
+  pub text-size : length new ≡ answerRoom
 
 pub data Run (input : List ℕ) : List ℕ → Cursor → Type 0 where
   begun : Run input [] beginning

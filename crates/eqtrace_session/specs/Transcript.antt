@@ -1,4 +1,5 @@
 -- What the program prints for an input (document 01, "The program `eqtrace`"), from the input's bytes.
+--   inputLimit  65,536
 --   textsOf     the answers' texts, one after the other
 --   AnswersTo   the answers to an input and the workspace after it: those to its orders, counted from 1, from the fresh workspace on, each
 --               order by its call's own contract with the names that the lines written rest on. An input of more than 65,536 bytes has no
@@ -23,8 +24,12 @@ abbrev pub textsOf : List Output → List ℕ
 textsOf [] = []
 textsOf (a ∷ answers) = textOf a ++ textsOf answers
 
+-- bytes of an input, and so as many orders
+abbrev pub inputLimit : ℕ
+inputLimit = 65536
+
 abbrev pub tooLong : List ℕ → Bool
-tooLong input = ltb 65536 (length input)
+tooLong input = ltb inputLimit (length input)
 
 abbrev pub AnswersBy : Bool → List ℕ → List Output → Workspace → Type 0
 AnswersBy true input answers w = (answers ≡ unreadable 0 ∷ []) × (w ≡ freshWorkspace)

@@ -2,9 +2,16 @@
 ghost use mathlib.Core.Path.{_≡_};
 ghost use Prim.Native.Nat.{_≤_, _<_};
 ghost use lib.ListN.{length};
+ghost use Rattle.graph.specs.Limits.{lineLimit, bufferBytes};
 ghost use Rattle.eqtrace_orders.specs.Input.{EndsAt};
+ghost use Rattle.eqtrace_answers.specs.Puts.{answerRoom};
+ghost use Rattle.eqtrace_session.specs.Transcript.{inputLimit};
 ghost use Rattle.eqtrace_session.specs.Steps.{beginning, leftOf, OrderAt, TooLong, Steps};
 use unifier::Workspace;
+
+const INPUT: usize = 65536; // bytes of an input
+
+const ORDERS: u32 = 65536; // of an input: each has at least its line break, but perhaps the last
 
 // A place in an input: the workspace after the orders before it, where the next one begins, and its number. Only `begin` and `step` make one.
 pub struct Cursor {
@@ -44,17 +51,17 @@ pub fn workspace(c: Cursor) -> Workspace
     c.workspace
 }
 
-// An input that may be read has at most 65,536 orders, so no step comes to a higher number.
+// No step comes to a number above ORDERS.
 fn left_at(input: &[u8], at: usize, i: u32) -> Left
     ensures { λ r. ⌜ r ≡ leftOf (now (input .entry)) at i ⌝ }
 {
     if input.len() <= at {
         return Left::Nothing;
     }
-    if 65536 < i {
+    if ORDERS < i {
         return Left::Nothing;
     }
-    if 65536 < input.len() {
+    if INPUT < input.len() {
         return Left::TooLong;
     }
     Left::Order
@@ -77,7 +84,7 @@ fn line_end(input: &[u8], at: usize) -> usize
 
 // The one answer to an input that is too long.
 fn too_long(w: Workspace, end: usize, i: u32, names: &mut [u16], out: &mut [u8]) -> Stepped
-    requires { ⌜ (length (now names) ≡ 8192) × (49184 ≤ length (now out)) ⌝ }
+    requires { ⌜ (length (now names) ≡ lineLimit) × (answerRoom ≤ length (now out)) ⌝ }
     ensures { λ r. ⌜ TooLong w end i (now (out .entry)) (now (out .exit)) r ⌝ }
 {
     let carried = eqtrace_carry::unreadable(w, 0, names, out);
@@ -102,7 +109,7 @@ fn order_at<'a>(
     names: &mut [u16],
     out: &mut [u8],
 ) -> Stepped
-    requires { ⌜ (at < length (now input)) × (length (now input) ≤ 65536) × (i ≤ 65536) × (length (now proof) ≡ 65536) × (length (now names) ≡ 8192) × (49184 ≤ length (now out)) ⌝ }
+    requires { ⌜ (at < length (now input)) × (length (now input) ≤ inputLimit) × (i ≤ inputLimit) × (length (now proof) ≡ bufferBytes) × (length (now names) ≡ lineLimit) × (answerRoom ≤ length (now out)) ⌝ }
     ensures { λ r. ⌜ OrderAt w (now (input .entry)) at i (now (proof .entry)) (now (proof .exit)) (now (out .entry)) (now (out .exit)) r ⌝ }
 {
     let e = line_end(input, at);

@@ -9,10 +9,11 @@
 --   EqualLabels  equal labels of two functor nodes
 --   Proper       each child is an earlier node, each end of an equation a known node
 --   offered      the state with one equation more, document 01's held and offered together
+--   withOffer    the same where perhaps one equation is offered
 use mathlib.Core.Path.{_≡_}
 use mathlib.Core.Bool.{Bool, true, false, _&&_, cond}
 use mathlib.Core.List.{List, [], _∷_, _++_}
-use mathlib.Core.Option.{some}
+use mathlib.Core.Option.{Option, none, some}
 use Prim.Native.Nat.{ℕ, _<_}
 use lib.ListN.{length, getElem?}
 use lib.Dec.{eqb}
@@ -78,3 +79,11 @@ pub record Proper (s : State) : Type 0 where
 
 abbrev pub offered : State → Equation → State
 offered s e = stateWith (s .nodes) (s .equations ++ (e ∷ []))
+
+-- the held equations, then the offered one, if there is one
+abbrev pub extended : List Equation → Option Equation → List Equation
+extended es none = es
+extended es (some e) = es ++ (e ∷ [])
+
+abbrev pub withOffer : State → Option Equation → State
+withOffer s o = stateWith (s .nodes) (extended (s .equations) o)

@@ -2,11 +2,10 @@
 use mathlib.Core.Path.{_≡_, sym, ap, _∙_}
 use mathlib.Core.Bool.{Bool, true, false, cond}
 use mathlib.Core.List.{List, []}
-use Prim.Native.Nat.{ℕ, _*_, _%_, _≤_, _<_}
+use Prim.Native.Nat.{ℕ, _*_, _≤_}
 use native.Mathlib.Omega.{arith}
 use lib.ListN.{length, take}
 use lib.Seq.{length-take-le}
-use borrow.Author.Tests.{eq-eqb, ne-eqb, lt-ltb, le-ltb}
 use Rattle.graph.specs.State.{State}
 use Rattle.graph.specs.Lines.{lineClaims}
 use Rattle.graph.specs.Goals.{Goal, Meaning, shows, ended, Judgement, passed, refused, broken-line, judgeEnd, judge, Passes, Cites}
@@ -19,39 +18,30 @@ use Rattle.proof_rules.specs.Rules.{claimBy}
 use Rattle.proof_check.specs.declared.Walked.{Walked}
 use Rattle.proof_check.specs.declared.Walked.the-variants.{Ends, Breaks}
 use Rattle.proof_check.specs.Answers.{walked, badLength, answerTo}
+use Rattle.proof_check.proofs.LengthLaws.{whole-length}
 
 module _ (s : State) (g : Goal) (bs : List ℕ) where
-  pub answer-none : length bs ≡ 0 → refused 11 ≡ answerTo s g bs
+  pub answer-bad : badLength (length bs) ≡ true → refused 11 ≡ answerTo s g bs
   unfolding answerTo
-  answer-none e = rw (eq-eqb _ _ e)
+  answer-bad e = rw e
 
-  module _ (one : length bs ≡ 0 → ⊥) where
-    pub answer-long : 65536 < length bs → refused 11 ≡ answerTo s g bs
+  module _ (good : badLength (length bs) ≡ false) where
+    judges : judge s g (linesOf bs) ≡ answerTo s g bs
     unfolding answerTo
-    answer-long h = rw (ne-eqb _ _ one, lt-ltb _ _ h)
+    judges = rw good
 
-    module _ (few : length bs ≤ 65536) where
-      pub answer-part : (length bs % 8 ≡ 0 → ⊥) → refused 11 ≡ answerTo s g bs
-      unfolding answerTo
-      answer-part e = rw (ne-eqb _ _ one, le-ltb _ _ few, ne-eqb _ _ e)
+    module _ (r : Walked) (w : walked r ≡ ended (lineClaims s [] (linesOf bs))) where
+      ending : judgeEnd (s .nodes) g (walked r) ≡ answerTo s g bs
+      ending = ap (judgeEnd (s .nodes) g) w ∙ judges
 
-      module _ (whole : length bs % 8 ≡ 0) where
-        judges : judge s g (linesOf bs) ≡ answerTo s g bs
-        unfolding answerTo
-        judges = rw (ne-eqb _ _ one, le-ltb _ _ few, eq-eqb _ _ whole)
+      -- j is the line that the code gives
+      pub answer-breaks : (i j : ℕ) → r ≡ Breaks i → j ≡ i → broken-line j ≡ answerTo s g bs
+      answer-breaks i j e q = ap broken-line q ∙ ap (λ (x : Walked). judgeEnd (s .nodes) g (walked x)) (sym e) ∙ ending
 
-        module _ (r : Walked) (w : walked r ≡ ended (lineClaims s [] (linesOf bs))) where
-          ending : judgeEnd (s .nodes) g (walked r) ≡ answerTo s g bs
-          ending = ap (judgeEnd (s .nodes) g) w ∙ judges
-
-          -- j is the line that the code gives
-          pub answer-breaks : (i j : ℕ) → r ≡ Breaks i → j ≡ i → broken-line j ≡ answerTo s g bs
-          answer-breaks i j e q = ap broken-line q ∙ ap (λ (x : Walked). judgeEnd (s .nodes) g (walked x)) (sym e) ∙ ending
-
-          -- b is the code's answer to whether the last claim shows the goal, j its answer to the call
-          pub answer-ends : (k u v : ℕ) → r ≡ Ends k u v → (b : Bool) → b ≡ shows (s .nodes) g (claimBy k u v) → (j : Judgement) → j ≡ cond b passed (refused 13) → j ≡ answerTo s g bs
-          answer-ends k u v e b q j d =
-              d ∙ ap (λ (t : Bool). cond t passed (refused 13)) q ∙ ap (λ (x : Walked). judgeEnd (s .nodes) g (walked x)) (sym e) ∙ ending
+      -- b is the code's answer to whether the last claim shows the goal, j its answer to the call
+      pub answer-ends : (k u v : ℕ) → r ≡ Ends k u v → (b : Bool) → b ≡ shows (s .nodes) g (claimBy k u v) → (j : Judgement) → j ≡ cond b passed (refused 13) → j ≡ answerTo s g bs
+      answer-ends k u v e b q j d =
+          d ∙ ap (λ (t : Bool). cond t passed (refused 13)) q ∙ ap (λ (x : Walked). judgeEnd (s .nodes) g (walked x)) (sym e) ∙ ending
 
 -- what passes is judged so
 module _ (s : State) (g : Goal) (bs : List ℕ) (e : answerTo s g bs ≡ passed) where
@@ -74,10 +64,5 @@ module _ (s : State) (g : Goal) (bs : List ℕ) (e : answerTo s g bs ≡ passed)
 -- lines that were proved to pass in a buffer pass the checker, handed their bytes
 pub proof-passes : (s : State) (g : Goal) (n : ℕ) (before after : List ℕ) → ProofIn s g n before after → 8 * n ≤ length after → answerTo s g (take (8 * n) after) ≡ passed
 proof-passes s g n before after p room =
-    let size = length-take-le (8 * n) after room in
-    let some = p .some in
-    let few = p .few in
-    sym
-    (judges s g (take (8 * n) after) (λ e. omega arith) (omega arith) (omega arith))
-    ∙ ap (judge s g) (part-lines n after room)
-    ∙ p .passes
+    let good : badLength (length (take (8 * n) after)) ≡ false = rw (length-take-le (8 * n) after room) (whole-length n (p .some) (p .few)) in
+    sym (judges s g (take (8 * n) after) good) ∙ ap (judge s g) (part-lines n after room) ∙ p .passes

@@ -5,20 +5,21 @@ ghost use mathlib.Core.Path.{_≡_};
 ghost use Prim.Native.Nat.{_≤_};
 ghost use lib.Dec.{eqb};
 ghost use lib.ListN.{length};
-ghost use Rattle.graph.specs.State.{Node};
+ghost use Rattle.graph.specs.Limits.{nodeLimit, bufferBytes};
+ghost use Rattle.graph.specs.State.{Node, withOffer};
 ghost use Rattle.graph.specs.Lines.{same, below, lineClaims};
 ghost use Rattle.graph.specs.Goals.{ended, shows};
 ghost use Rattle.store.specs.Views.{terms, equations, nodesOf, stateFrom};
 ghost use Rattle.proof_lines.specs.Codec.{linesOf};
-ghost use Rattle.proof_rules.specs.Rules.{claimBy};
-ghost use Rattle.proof_claims.specs.Claims.{Fit, withOffer};
-ghost use Rattle.proof_check.specs.Answers.{walked, knownGoalOf, judgedAs, answerTo};
+ghost use Rattle.proof_rules.specs.Rules.{offerOf, claimBy};
+ghost use Rattle.proof_claims.specs.Claims.{Fit};
+ghost use Rattle.proof_check.specs.Answers.{walked, goalOf, judgedAs, badLength, answerTo};
 ghost use Rattle.store.specs.declared.Terms.{Terms};
 ghost use Rattle.store.specs.declared.Equations.{Equations};
 use proof_lines::Decoded;
 use proof_rules::Claimed;
-use proof_rules::KnownOffer;
 use proof_rules::Labels;
+use proof_rules::OfferAsked;
 
 // How the walk over the lines ends: in the last one's claim (kind, start, end), or at the first that breaks its rule.
 pub enum Walked {
@@ -26,12 +27,12 @@ pub enum Walked {
     Breaks(usize),
 }
 
-// The thing to be shown.
-pub enum KnownGoal {
+// What a proof is to show.
+pub enum GoalAsked {
     Clash,
     Cycle,
-    Same(u8, u8),
-    Below(u8, u8),
+    Same(u16, u16),
+    Below(u16, u16),
 }
 
 // The lines pass, a refusal's number, or refusal 12 with the line.
@@ -52,13 +53,13 @@ fn walk<'a>(
     left: &'a [u8; 256],
     right: &'a [u8; 256],
     m: usize,
-    offer: KnownOffer,
+    offer: OfferAsked,
     bytes: &'a [u8],
 ) -> Walked
     ghost { Terms × Equations }
     requires { λ w. ⌜ (terms n (now kind) (now symbol) (now arity) (now child), equations m (now name) (now left) (now right)) ≡ w ⌝ }
-    requires { λ w. ⌜ Fit (w .0) (w .1) × ((8 ≤ length (now bytes)) × (length (now bytes) ≤ 65536)) ⌝ }
-    ensures { λ w r. ⌜ walked r ≡ ended (lineClaims (withOffer offer (stateFrom (w .0) (w .1))) [] (linesOf (now (bytes .entry)))) ⌝ }
+    requires { λ w. ⌜ Fit (w .0) (w .1) (offerOf offer) × ((8 ≤ length (now bytes)) × (length (now bytes) ≤ bufferBytes)) ⌝ }
+    ensures { λ w r. ⌜ walked r ≡ ended (lineClaims (withOffer (stateFrom (w .0) (w .1)) (offerOf offer)) [] (linesOf (now (bytes .entry)))) ⌝ }
 {
     let mut kinds = [0u8; 8192];
     let mut starts = [0u8; 8192];
@@ -97,13 +98,13 @@ fn walk<'a>(
     Walked::Ends(kinds[last], starts[last], ends[last])
 }
 
-fn equal_ends(x: u8, y: u8, u: u8, v: u8) -> bool
+fn equal_ends(x: u16, y: u16, u: u8, v: u8) -> bool
     ensures { λ r. ⌜ r ≡ (eqb x u && eqb y v) ⌝ }
 {
-    if x != u {
+    if x != u as u16 {
         return false;
     }
-    y == v
+    y == v as u16
 }
 
 // A claim of kind same from `u` to `v` shows the goal.
@@ -113,36 +114,36 @@ fn same_shows<'a>(
     arity: &'a [u8; 64],
     child: &'a [u8; 256],
     n: usize,
-    goal: KnownGoal,
+    goal: GoalAsked,
     u: u8,
     v: u8,
 ) -> bool
-    requires { ⌜ n ≤ 64 ⌝ }
-    ensures { λ r. ⌜ r ≡ shows (nodesOf (terms n (now (kind .entry)) (now (symbol .entry)) (now (arity .entry)) (now (child .entry)))) (knownGoalOf goal) (same u v) ⌝ }
+    requires { ⌜ n ≤ nodeLimit ⌝ }
+    ensures { λ r. ⌜ r ≡ shows (nodesOf (terms n (now (kind .entry)) (now (symbol .entry)) (now (arity .entry)) (now (child .entry)))) (goalOf goal) (same u v) ⌝ }
 {
     match goal {
-        KnownGoal::Clash => {
+        GoalAsked::Clash => {
             let Labels::Differ = proof_rules::compare_labels(kind, symbol, arity, child, n, u, v)
             else {
                 return false;
             };
             true
         }
-        KnownGoal::Cycle => false,
-        KnownGoal::Same(x, y) => equal_ends(x, y, u, v),
-        KnownGoal::Below(_, _) => false,
+        GoalAsked::Cycle => false,
+        GoalAsked::Same(x, y) => equal_ends(x, y, u, v),
+        GoalAsked::Below(_, _) => false,
     }
 }
 
 // A claim of kind below from `u` to `v` shows the goal, whatever the nodes.
-fn below_shows(goal: KnownGoal, u: u8, v: u8) -> bool
-    ensures { λ r. ⌜ ((ns : List Node) → r ≡ shows ns (knownGoalOf goal) (below u v)) ⌝ }
+fn below_shows(goal: GoalAsked, u: u8, v: u8) -> bool
+    ensures { λ r. ⌜ ((ns : List Node) → r ≡ shows ns (goalOf goal) (below u v)) ⌝ }
 {
     match goal {
-        KnownGoal::Clash => false,
-        KnownGoal::Cycle => u == v,
-        KnownGoal::Same(_, _) => false,
-        KnownGoal::Below(x, y) => equal_ends(x, y, u, v),
+        GoalAsked::Clash => false,
+        GoalAsked::Cycle => u == v,
+        GoalAsked::Same(_, _) => false,
+        GoalAsked::Below(x, y) => equal_ends(x, y, u, v),
     }
 }
 
@@ -153,19 +154,32 @@ fn shows_goal<'a>(
     arity: &'a [u8; 64],
     child: &'a [u8; 256],
     n: usize,
-    goal: KnownGoal,
+    goal: GoalAsked,
     k: u8,
     u: u8,
     v: u8,
 ) -> bool
-    requires { ⌜ n ≤ 64 ⌝ }
-    ensures { λ r. ⌜ r ≡ shows (nodesOf (terms n (now (kind .entry)) (now (symbol .entry)) (now (arity .entry)) (now (child .entry)))) (knownGoalOf goal) (claimBy k u v) ⌝ }
+    requires { ⌜ n ≤ nodeLimit ⌝ }
+    ensures { λ r. ⌜ r ≡ shows (nodesOf (terms n (now (kind .entry)) (now (symbol .entry)) (now (arity .entry)) (now (child .entry)))) (goalOf goal) (claimBy k u v) ⌝ }
 {
     if k == proof_rules::SAME {
         same_shows(kind, symbol, arity, child, n, goal, u, v)
     } else {
         below_shows(goal, u, v)
     }
+}
+
+// Refusal 11: no byte, more than a buffer's, or a part of a line at the end.
+pub fn bad_length(size: usize) -> bool
+    ensures { λ r. ⌜ r ≡ badLength size ⌝ }
+{
+    if size == 0 {
+        return true;
+    }
+    if size > graph::BUFFER {
+        return true;
+    }
+    size % 8 != 0
 }
 
 // Refusal 11, then 12 with the first line that breaks its rule, then 13; or the lines pass.
@@ -179,23 +193,16 @@ pub fn check<'a>(
     left: &'a [u8; 256],
     right: &'a [u8; 256],
     m: usize,
-    offer: KnownOffer,
+    offer: OfferAsked,
     bytes: &'a [u8],
-    goal: KnownGoal,
+    goal: GoalAsked,
 ) -> Judged
     ghost { Terms × Equations }
     requires { λ w. ⌜ (terms n (now kind) (now symbol) (now arity) (now child), equations m (now name) (now left) (now right)) ≡ w ⌝ }
-    requires { λ w. ⌜ Fit (w .0) (w .1) ⌝ }
-    ensures { λ w r. ⌜ judgedAs r ≡ answerTo (withOffer offer (stateFrom (w .0) (w .1))) (knownGoalOf goal) (now (bytes .entry)) ⌝ }
+    requires { λ w. ⌜ Fit (w .0) (w .1) (offerOf offer) ⌝ }
+    ensures { λ w r. ⌜ judgedAs r ≡ answerTo (withOffer (stateFrom (w .0) (w .1)) (offerOf offer)) (goalOf goal) (now (bytes .entry)) ⌝ }
 {
-    let size = bytes.len();
-    if size == 0 {
-        return Judged::Refused(11);
-    }
-    if size > 65536 {
-        return Judged::Refused(11);
-    }
-    if size % 8 != 0 {
+    if bad_length(bytes.len()) {
         return Judged::Refused(11);
     }
     match walk(

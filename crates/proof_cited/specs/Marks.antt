@@ -2,6 +2,7 @@
 --   markOne, markAll   the lines that line k cites are marked, where they come before it
 --   seeOne             the name of an equation line is noted
 --   blockOne           and so is its block: names 64 b to 64 b + 63 are block b
+--   blockSize          64
 --   Blank              a table of n zeros
 --   ones               how many entries are 1
 --   Listable           both tables note the same names, at most 8,192
@@ -13,6 +14,7 @@ use mathlib.Core.List.{List, [], _∷_}
 use Prim.Native.Nat.{ℕ, suc, _/_, _≤_, _<_}
 use lib.ListN.{length, set, getD}
 use lib.Dec.{eqb, ltb}
+use Rattle.graph.specs.Limits.{lineLimit}
 use Rattle.graph.specs.Lines.{Line}
 use Rattle.proof_cited.specs.Cited.{CitedTable}
 
@@ -26,8 +28,11 @@ markAll m k (a ∷ l) = markAll (markOne m k a) k l
 unfoldable pub seeOne : List ℕ → ℕ → ℕ → List ℕ
 seeOne s rule first = cond (eqb rule 1) (set s first 1) s
 
+abbrev pub blockSize : ℕ
+blockSize = 64
+
 abbrev pub blockOne : List ℕ → ℕ → ℕ → List ℕ
-blockOne b rule first = seeOne b rule (first / 64)
+blockOne b rule first = seeOne b rule (first / blockSize)
 
 pub record Blank (n : ℕ) (table : List ℕ) : Type 0 where
   pub long : length table ≡ n
@@ -40,8 +45,8 @@ ones (x ∷ l) = cond (eqb x 1) (suc (ones l)) (ones l)
 pub record Listable (seen blocks : List ℕ) : Type 0 where
   pub seen-long : length seen ≡ 65536
   pub blocks-long : length blocks ≡ 1024
-  pub blocked : (x : ℕ) → getD seen x 0 ≡ 1 → getD blocks (x / 64) 0 ≡ 1
-  pub few : ones seen ≤ 8192
+  pub blocked : (x : ℕ) → getD seen x 0 ≡ 1 → getD blocks (x / blockSize) 0 ≡ 1
+  pub few : ones seen ≤ lineLimit
 
 pub record NamesNoted (ls : List Line) (seen blocks : List ℕ) : Type 0 where
   pub table : CitedTable ls seen

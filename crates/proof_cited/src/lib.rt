@@ -2,10 +2,13 @@
 ghost use mathlib.Core.Path.{_≡_};
 ghost use Prim.Native.Nat.{_+_, _*_, _≤_, _<_};
 ghost use lib.ListN.{length};
+ghost use Rattle.graph.specs.Limits.{lineLimit, bufferBytes};
 ghost use Rattle.proof_lines.specs.Codec.{lineAt, linesOf};
-ghost use Rattle.proof_cited.specs.Cited.{citations, CitedTable, CitedRising};
+ghost use Rattle.proof_cited.specs.Cited.{citations, CitedRising};
 ghost use Rattle.proof_cited.specs.Marks.{markOne, markAll, seeOne, blockOne, Blank, Listable, NamesNoted, Listed};
 use proof_lines::Fields;
+
+const BLOCK: usize = 64; // names that are passed over together where none of them was noted
 
 // Marks line `i` where it comes before line `k`.
 fn mark(marks: &mut [u8], k: usize, i: u16)
@@ -47,7 +50,7 @@ fn note(seen: &mut [u8], blocks: &mut [u8], l: Fields)
     let x = l.first as usize;
     if l.rule == 1 {
         seen[x] = 1;
-        blocks[x / 64] = 1;
+        blocks[x / BLOCK] = 1;
     }
 }
 
@@ -63,7 +66,7 @@ fn visit<'a>(bytes: &'a [u8], k: usize, marks: &mut [u8], seen: &mut [u8], block
 
 // Visits each marked line, from the last back to the first.
 fn mark_back<'a>(bytes: &'a [u8], marks: &mut [u8], seen: &mut [u8], blocks: &mut [u8])
-    requires { ⌜ Blank 8192 (now marks) × Blank 65536 (now seen) × Blank 1024 (now blocks) × (8 ≤ length (now bytes)) × (length (now bytes) ≤ 65536) ⌝ }
+    requires { ⌜ Blank lineLimit (now marks) × Blank 65536 (now seen) × Blank 1024 (now blocks) × (8 ≤ length (now bytes)) × (length (now bytes) ≤ bufferBytes) ⌝ }
     ensures { λ _. ⌜ NamesNoted (linesOf (now (bytes .entry))) (now (seen .exit)) (now (blocks .exit)) ⌝ }
 {
     let mut k = bytes.len() / 8;
@@ -77,26 +80,16 @@ fn mark_back<'a>(bytes: &'a [u8], marks: &mut [u8], seen: &mut [u8], blocks: &mu
     }
 }
 
-// Puts 1 at each name cited by an equation line that the last line rests on.
-pub fn cited(bytes: &[u8], seen: &mut [u8])
-    requires { ⌜ Blank 65536 (now seen) × (8 ≤ length (now bytes)) × (length (now bytes) ≤ 65536) ⌝ }
-    ensures { λ _. ⌜ CitedTable (linesOf (now (bytes .entry))) (now (seen .exit)) ⌝ }
-{
-    let mut marks = [0u8; 8192];
-    let mut blocks = [0u8; 1024];
-    mark_back(bytes, &mut marks, seen, &mut blocks);
-}
-
 // Lists the noted names, rising; a block without one is passed over.
 fn list_names<'a>(seen: &'a [u8], blocks: &'a [u8], names: &mut [u16]) -> usize
-    requires { ⌜ Listable (now seen) (now blocks) × (8192 ≤ length (now names)) ⌝ }
+    requires { ⌜ Listable (now seen) (now blocks) × (lineLimit ≤ length (now names)) ⌝ }
     ensures { λ r. ⌜ Listed (now (seen .entry)) (now (names .exit)) r ⌝ }
 {
     let mut n = 0;
     let mut x: usize = 0;
     while x < 65536 {
-        if blocks[x / 64] != 1 {
-            x = (x / 64 + 1) * 64;
+        if blocks[x / BLOCK] != 1 {
+            x = (x / BLOCK + 1) * BLOCK;
         } else if seen[x] == 1 {
             names[n] = x as u16;
             n += 1;
@@ -110,7 +103,7 @@ fn list_names<'a>(seen: &'a [u8], blocks: &'a [u8], names: &mut [u16]) -> usize
 
 // Writes the names cited by equation lines that the last line rests on, rising, each once, and gives their number.
 pub fn cited_names(bytes: &[u8], names: &mut [u16]) -> usize
-    requires { ⌜ (8 ≤ length (now bytes)) × (length (now bytes) ≤ 65536) × (8192 ≤ length (now names)) ⌝ }
+    requires { ⌜ (8 ≤ length (now bytes)) × (length (now bytes) ≤ bufferBytes) × (lineLimit ≤ length (now names)) ⌝ }
     ensures { λ r. ⌜ CitedRising (linesOf (now (bytes .entry))) (now (names .exit)) r ⌝ }
 {
     let mut marks = [0u8; 8192];

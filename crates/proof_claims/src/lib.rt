@@ -2,17 +2,19 @@
 ghost use mathlib.Core.Path.{_≡_};
 ghost use Prim.Native.Nat.{ℕ, _≤_, _<_};
 ghost use lib.ListN.{getD};
+ghost use Rattle.graph.specs.Limits.{nodeLimit, childLimit, lineLimit};
+ghost use Rattle.graph.specs.State.{withOffer};
 ghost use Rattle.graph.specs.Lines.{bySymmetry, byTransitivity, byDown, claimOf};
 ghost use Rattle.store.specs.Views.{terms, equations, nodesOf, stateFrom};
 ghost use Rattle.proof_lines.specs.Reading.{lineOf};
-ghost use Rattle.proof_rules.specs.Rules.{claimed};
-ghost use Rattle.proof_claims.specs.Claims.{Fit, withOffer, claimsOf};
+ghost use Rattle.proof_rules.specs.Rules.{offerOf, claimed};
+ghost use Rattle.proof_claims.specs.Claims.{Fit, claimsOf};
 ghost use Rattle.store.specs.declared.Terms.{Terms};
 ghost use Rattle.store.specs.declared.Equations.{Equations};
 use proof_lines::Fields;
 use proof_rules::BELOW;
 use proof_rules::Claimed;
-use proof_rules::KnownOffer;
+use proof_rules::OfferAsked;
 use proof_rules::SAME;
 
 // Rule 4, after `n` claims.
@@ -23,7 +25,7 @@ fn by_symmetry<'a>(
     n: usize,
     i: u16,
 ) -> Claimed
-    requires { ⌜ n ≤ 8192 ⌝ }
+    requires { ⌜ n ≤ lineLimit ⌝ }
     ensures { λ r. ⌜ claimed r ≡ bySymmetry (claimsOf (now (kinds .entry)) (now (starts .entry)) (now (ends .entry)) n) i ⌝ }
 {
     let a = i as usize;
@@ -49,7 +51,7 @@ fn by_transitivity<'a>(
     i: u16,
     j: u16,
 ) -> Claimed
-    requires { ⌜ n ≤ 8192 ⌝ }
+    requires { ⌜ n ≤ lineLimit ⌝ }
     ensures { λ r. ⌜ claimed r ≡ byTransitivity (claimsOf (now (kinds .entry)) (now (starts .entry)) (now (ends .entry)) n) i j ⌝ }
 {
     let a = i as usize;
@@ -89,7 +91,7 @@ fn by_down<'a>(
     i: u16,
     p: u8,
 ) -> Claimed
-    requires { ⌜ (n ≤ 64) × ((x : ℕ) → x < n → getD (now arity) x 0 ≤ 4) × (k ≤ 8192) ⌝ }
+    requires { ⌜ (n ≤ nodeLimit) × ((x : ℕ) → x < n → getD (now arity) x 0 ≤ childLimit) × (k ≤ lineLimit) ⌝ }
     ensures { λ r. ⌜ claimed r ≡ byDown (nodesOf (terms n (now (kind .entry)) (now (symbol .entry)) (now (arity .entry)) (now (child .entry)))) (claimsOf (now (kinds .entry)) (now (starts .entry)) (now (ends .entry)) k) i p ⌝ }
 {
     let c = i as usize;
@@ -117,7 +119,7 @@ pub fn claim<'a>(
     left: &'a [u8; 256],
     right: &'a [u8; 256],
     m: usize,
-    o: KnownOffer,
+    o: OfferAsked,
     kinds: &'a [u8; 8192],
     starts: &'a [u8; 8192],
     ends: &'a [u8; 8192],
@@ -126,8 +128,8 @@ pub fn claim<'a>(
 ) -> Claimed
     ghost { Terms × Equations }
     requires { λ w. ⌜ (terms n (now kind) (now symbol) (now arity) (now child), equations m (now name) (now left) (now right)) ≡ w ⌝ }
-    requires { λ w. ⌜ Fit (w .0) (w .1) × (k ≤ 8192) ⌝ }
-    ensures { λ w r. ⌜ claimed r ≡ claimOf (withOffer o (stateFrom (w .0) (w .1))) (claimsOf (now (kinds .entry)) (now (starts .entry)) (now (ends .entry)) k) (lineOf l) ⌝ }
+    requires { λ w. ⌜ Fit (w .0) (w .1) (offerOf o) × (k ≤ lineLimit) ⌝ }
+    ensures { λ w r. ⌜ claimed r ≡ claimOf (withOffer (stateFrom (w .0) (w .1)) (offerOf o)) (claimsOf (now (kinds .entry)) (now (starts .entry)) (now (ends .entry)) k) (lineOf l) ⌝ }
 {
     if !proof_lines::tidy(l) {
         return Claimed::Breaks;

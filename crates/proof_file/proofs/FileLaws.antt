@@ -1,6 +1,6 @@
 -- Laws of the proof file: what a reply tells, and that writing and reading are inverse.
 use mathlib.Core.Path.{_≡_, refl, sym, ap, _∙_}
-use mathlib.Core.Bool.{Bool, true, false, not, _&&_, _||_, cond}
+use mathlib.Core.Bool.{Bool, true, false, not, cond}
 use mathlib.Core.List.{List, [], _∷_, _++_}
 use mathlib.Core.Option.{Option, none, some}
 use mathlib.Core.Logic.{⊎-elim}
@@ -11,8 +11,11 @@ use lib.ListN.{length, getD, drop, take, length-drop}
 use lib.Seq.{take-all, take-length, drop-append-add, drop-drop, paste}
 use lib.Dec.{eqb, ltb}
 use borrow.Author.Tests.{eqb-true, eqb-false, eq-eqb, ne-eqb, ltb-false, le-ltb, not-true}
+use Rattle.base.proofs.BoolLaws.{and-left, and-right}
+use Rattle.graph.specs.Limits.{lineLimit}
 use Rattle.proof_lines.specs.Codec.{two}
 use Rattle.proof_check.specs.Answers.{badLength}
+use Rattle.proof_check.proofs.LengthLaws.{length-whole, whole-length}
 use Rattle.proof_file.specs.File.{headerOf, fileOf, isMarked, isCounted, fileRefusal, linesOr, linesIn}
 use Rattle.proof_file.specs.RoundTrip.{ReadBack, RoundTrip}
 use Rattle.proof_file.specs.Contracts.{readReply}
@@ -57,35 +60,6 @@ refused-lines f k e = sym (reply-refused (fileRefusal f) k e f)
 
 -- ---- lines that are written
 
--- a length that refusal 11 passes: n whole lines, from 1 to 8,192
-pub record Whole (size : ℕ) : Type 0 where
-  pub some : 1 ≤ size / 8
-  pub few : size / 8 ≤ 8192
-  pub whole : 8 * (size / 8) ≡ size
-
-pub length-whole : (size : ℕ) → badLength size ≡ false → Whole size
-length-whole size e = go (eqb size 0) refl (ltb 65536 size) refl (eqb (size % 8) 0) refl e
-  where
-    go : (a : Bool) → eqb size 0 ≡ a → (b : Bool) → ltb 65536 size ≡ b → (c : Bool) → eqb (size % 8) 0 ≡ c → a || (b || not c) ≡ false → Whole size
-    go true p b q c r e = absurd (let z : _≡_ {A = ℕ} 0 1 = cc in omega arith)
-    go false p true q c r e = absurd (let z : _≡_ {A = ℕ} 0 1 = cc in omega arith)
-    go false p false q false r e = absurd (let z : _≡_ {A = ℕ} 0 1 = cc in omega arith)
-    go false p false q true r e =
-        let m : size % 8 ≡ 0 = eqb-true (size % 8) 0 r in
-        let d : size / 8 * 8 + size % 8 ≡ size = div-add-mod' size 8 in
-        let l : size ≤ 65536 = ltb-false 65536 size q in
-        let n : size ≡ 0 → ⊥ = eqb-false size 0 p in
-        record {
-          some = ⊎-elim (λ z. absurd (n (omega arith))) (λ z. z) (eq-zero-or-pos (size / 8));
-          few = omega arith;
-          whole = omega arith;
-        }
-
-pub whole-length : (n : ℕ) → 1 ≤ n → n ≤ 8192 → badLength (8 * n) ≡ false
-whole-length n a b =
-    let m : (8 * n) % 8 ≡ 0 = omega arith in
-    rw (ne-eqb (8 * n) 0 (λ z. omega arith), le-ltb 65536 (8 * n) (omega arith), eq-eqb _ _ m)
-
 module _ (ls : List ℕ) (e : badLength (length ls) ≡ false) where
   written-count : two (fileOf ls) 5 ≡ length ls / 8
   written-count = div-add-mod' (length ls / 8) 256
@@ -112,18 +86,10 @@ pasted ls out mid h e =
 
 -- ---- files that are read
 
-and-left : (a b : Bool) → a && b ≡ true → a ≡ true
-and-left true b e = refl
-and-left false b e = e
-
-and-right : (a b : Bool) → a && b ≡ true → b ≡ true
-and-right true b e = e
-and-right false b e = absurd (let z : _≡_ {A = ℕ} 0 1 = cc in omega arith)
-
 -- the count of a readable file, and the length that goes with it
 pub record Counts (f : List ℕ) : Type 0 where
   pub some : 1 ≤ two f 5
-  pub few : two f 5 ≤ 8192
+  pub few : two f 5 ≤ lineLimit
   pub long : length f ≡ 7 + 8 * two f 5
 
 pub readable-counts : (f : List ℕ) → isCounted f ≡ true → Counts f

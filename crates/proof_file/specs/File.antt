@@ -9,6 +9,7 @@ use mathlib.Core.Option.{Option, none, some}
 use Prim.Native.Nat.{ℕ, _+_, _*_, _/_, _%_}
 use lib.ListN.{length, getD, drop}
 use lib.Dec.{eqb, ltb}
+use Rattle.graph.specs.Limits.{lineLimit}
 use Rattle.proof_lines.specs.Codec.{two}
 use Rattle.proof_check.specs.Answers.{badLength}
 
@@ -23,7 +24,7 @@ unfoldable pub isMarked : List ℕ → Bool
 isMarked file = eqb (getD file 0 0) 80 && (eqb (getD file 1 0) 84 && (eqb (getD file 2 0) 72 && eqb (two file 3) 1))
 
 unfoldable pub isCounted : List ℕ → Bool
-isCounted file = not (eqb (two file 5) 0) && (not (ltb 8192 (two file 5)) && eqb (length file) (7 + 8 * two file 5))
+isCounted file = not (eqb (two file 5) 0) && (not (ltb lineLimit (two file 5)) && eqb (length file) (7 + 8 * two file 5))
 
 unfoldable pub fileRefusal : List ℕ → Option ℕ
 fileRefusal file = cond (ltb (length file) 7) (some 15) (cond (isMarked file) (cond (isCounted file) none (some 15)) (some 14))

@@ -4,8 +4,6 @@ ghost use Prim.Native.Nat.{_+_, _≤_, _<_};
 ghost use mathlib.Core.List.{_++_};
 ghost use lib.ListN.{length, drop};
 ghost use lib.Seq.{paste};
-ghost use Rattle.proof_lines.specs.Codec.{two};
-ghost use Rattle.proof_check.specs.Answers.{badLength as badLines};
 ghost use Rattle.proof_file.specs.File.{isMarked, isCounted, fileRefusal, linesIn, headerOf};
 ghost use Rattle.proof_file.specs.Contracts.{readReply, Writes};
 
@@ -17,18 +15,6 @@ pub enum WriteReply {
 pub enum ReadReply {
     Readable,
     Refused(u8),
-}
-
-fn bad_length(size: usize) -> bool
-    ensures { λ r. ⌜ r ≡ badLines size ⌝ }
-{
-    if size == 0 {
-        return true;
-    }
-    if 65536 < size {
-        return true;
-    }
-    size % 8 != 0
 }
 
 fn put_header(out: &mut [u8], count: u16)
@@ -60,7 +46,7 @@ pub fn write(lines: &[u8], out: &mut [u8]) -> WriteReply
     ensures { λ r. ⌜ Writes (now (lines .entry)) (now (out .entry)) (now (out .exit)) r ⌝ }
 {
     let size = lines.len();
-    if bad_length(size) {
+    if proof_check::bad_length(size) {
         return WriteReply::Refused(11);
     }
     if out.len() < 7 + size {
@@ -69,20 +55,6 @@ pub fn write(lines: &[u8], out: &mut [u8]) -> WriteReply
     put_header(out, (size / 8) as u16);
     put_lines(out, lines);
     WriteReply::Wrote(7 + size)
-}
-
-fn wide(b: u8) -> usize
-    ensures { λ r. ⌜ (r ≡ b) × (b < 256) ⌝ }
-{
-    b as usize
-}
-
-// The 16-bit number at a byte, the high byte first.
-fn pair(s: &[u8], at: usize) -> usize
-    requires { ⌜ at + 2 ≤ length (now s) ⌝ }
-    ensures { λ r. ⌜ r ≡ two (now (s .entry)) at ⌝ }
-{
-    wide(s[at]) * 256 + wide(s[at + 1])
 }
 
 fn is_marked(file: &[u8]) -> bool
@@ -98,18 +70,18 @@ fn is_marked(file: &[u8]) -> bool
     if file[2] != b'H' {
         return false;
     }
-    pair(file, 3) == 1
+    proof_lines::pair(file, 3) == 1
 }
 
 fn is_counted(file: &[u8]) -> bool
     requires { ⌜ 7 ≤ length (now file) ⌝ }
     ensures { λ r. ⌜ r ≡ isCounted (now (file .entry)) ⌝ }
 {
-    let count = pair(file, 5);
+    let count = proof_lines::pair(file, 5) as usize;
     if count == 0 {
         return false;
     }
-    if 8192 < count {
+    if graph::LINES < count {
         return false;
     }
     file.len() == 7 + 8 * count

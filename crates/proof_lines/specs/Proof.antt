@@ -6,6 +6,7 @@ use mathlib.Core.Path.{_≡_}
 use mathlib.Core.List.{List, []}
 use Prim.Native.Nat.{ℕ, _*_, _≤_}
 use lib.ListN.{length, getD}
+use Rattle.graph.specs.Limits.{lineLimit}
 use Rattle.graph.specs.State.{State}
 use Rattle.graph.specs.Lines.{Claim, lineClaims}
 use Rattle.graph.specs.Goals.{Goal, Passes, ended, ends}
@@ -20,6 +21,6 @@ Concludes s c n bytes = ended (lineClaims s [] (firstLines n bytes)) ≡ ends c
 
 pub record ProofIn (s : State) (g : Goal) (n : ℕ) (before after : List ℕ) : Type 0 where
   pub some : 1 ≤ n
-  pub few : n ≤ 8192
+  pub few : n ≤ lineLimit
   pub passes : Passes s g (firstLines n after)
   pub kept : Kept n before after

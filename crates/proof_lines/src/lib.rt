@@ -2,6 +2,7 @@
 ghost use mathlib.Core.Path.{_≡_};
 ghost use Prim.Native.Nat.{_+_, _*_, _≤_, _<_};
 ghost use lib.ListN.{length};
+ghost use Rattle.graph.specs.Limits.{lineLimit};
 ghost use Rattle.graph.specs.Lines.{usesOf, usedOrZero, tidy as tidyLine};
 ghost use Rattle.proof_lines.specs.Codec.{two, line, lineAt, Put};
 ghost use Rattle.proof_lines.specs.Reading.{lineOf, fieldsOf, decoded, usesIn};
@@ -72,7 +73,7 @@ fn wide(b: u8) -> u16
 }
 
 // The 16-bit number at a byte, high byte first.
-fn pair(s: &[u8], at: usize) -> u16
+pub fn pair(s: &[u8], at: usize) -> u16
     requires { ⌜ at + 2 ≤ length (now s) ⌝ }
     ensures { λ r. ⌜ r ≡ two (now (s .entry)) at ⌝ }
 {
@@ -115,7 +116,7 @@ pub fn decode(s: &[u8], k: usize) -> Decoded
 
 // Writes line `n`, and no byte beside it.
 pub fn put_line(buf: &mut [u8], n: usize, rule: u8, place: u8, first: u16, second: u16)
-    requires { ⌜ (n < 8192) × (8 * n + 8 ≤ length (now buf)) ⌝ }
+    requires { ⌜ (n < lineLimit) × (8 * n + 8 ≤ length (now buf)) ⌝ }
     ensures { λ _. ⌜ Put (now (buf .entry)) n (line rule place first second) (now (buf .exit)) ⌝ }
 {
     let o = 8 * n;
@@ -127,14 +128,6 @@ pub fn put_line(buf: &mut [u8], n: usize, rule: u8, place: u8, first: u16, secon
     buf[o + 5] = (second % 256) as u8;
     buf[o + 6] = 0;
     buf[o + 7] = 0;
-}
-
-// Writes the line with these fields at `n`, and no byte beside it.
-pub fn encode(buf: &mut [u8], n: usize, l: Fields)
-    requires { ⌜ (n < 8192) × (8 * n + 8 ≤ length (now buf)) ⌝ }
-    ensures { λ _. ⌜ Put (now (buf .entry)) n (lineOf l) (now (buf .exit)) ⌝ }
-{
-    put_line(buf, n, l.rule, l.place, l.first, l.second);
 }
 
 // The table's row for a rule; a number that is no rule uses no field.

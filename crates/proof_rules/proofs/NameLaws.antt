@@ -1,52 +1,46 @@
--- The equation of a name, by the first place where the name stands.
+-- The equation of a name among the held ones and the offered one, by the first place where the name stands.
 use mathlib.Core.Path.{_≡_, refl, sym, ap, _∙_}
-use mathlib.Core.List.{List, [], _++_, append-nil}
-use mathlib.Core.Option.{Option, some}
-use Prim.Native.Nat.{ℕ, zero, suc, _≤_, _<_}
-use native.Mathlib.Nat.{not-suc-le-zero, le-of-suc-le-suc}
-use native.Mathlib.Omega.{arith}
+use mathlib.Core.Bool.{Bool, true, false, cond}
+use mathlib.Core.List.{List, [], _∷_, _++_, append-nil}
+use mathlib.Core.Option.{Option, none, some}
+use Prim.Native.Nat.{ℕ, _≤_, _<_}
+use lib.Dec.{eqb}
 use lib.ListN.{getD}
-use borrow.Author.Tests.{eq-eqb, ne-eqb}
-use Rattle.base.specs.Tab.{tab}
-use Rattle.base.proofs.TabLaws.{tab-none, tab-first}
-use Rattle.graph.specs.State.{Equation}
+use Rattle.graph.specs.State.{Equation, extended}
 use Rattle.graph.specs.Lines.{Claim, same, try, named, claimOfEquation, byEquation}
 use Rattle.store.specs.Views.{equationAt, equationsOf}
+use Rattle.store.specs.Operations.{First}
+use Rattle.store.proofs.FindLaws.{named-first, named-none}
 use Rattle.store.specs.declared.Equations.{Equations}
-use Rattle.proof_rules.specs.declared.KnownOffer.{KnownOffer}
-use Rattle.proof_rules.specs.declared.KnownOffer.the-variants.{Nothing, Equate}
-use Rattle.proof_rules.specs.Rules.{extended, FirstName}
 
-named-first : (m : ℕ) (f : ℕ → Equation) (es : List Equation) (x k : ℕ) → k < m → ((j : ℕ) → j < k → f j .name ≡ x → ⊥) → f k .name ≡ x
-    → named (tab m f ++ es) x ≡ some (f k)
-named-first zero f es x k h b e = absurd (not-suc-le-zero h)
-named-first (suc m) f es x zero h b e = rw (tab-first m f, eq-eqb _ _ e)
-named-first (suc m) f es x (suc k) h b e =
-    rw (tab-first m f, ne-eqb _ _ (b 0 (omega arith))) (named-first m (λ i. f (suc i)) es x k (le-of-suc-le-suc h) (λ j q. b (suc j) (omega arith)) e)
+-- the first of a name among es and fs: that of es, or, where es has none, that of fs
+named-some : (es fs : List Equation) (x : ℕ) (e : Equation) → named es x ≡ some e → named (es ++ fs) x ≡ some e
+named-some [] fs x e h = cc
+named-some (d ∷ es) fs x e h = go (eqb (d .name) x) h (named-some es fs x e)
+  where
+    go : (b : Bool) → cond b (some d) (named es x) ≡ some e → (named es x ≡ some e → named (es ++ fs) x ≡ some e) → cond b (some d) (named (es ++ fs) x) ≡ some e
+    go true q r = q
+    go false q r = r q
 
-named-past : (m : ℕ) (f : ℕ → Equation) (es : List Equation) (x : ℕ) → ((j : ℕ) → j < m → f j .name ≡ x → ⊥) → named (tab m f ++ es) x ≡ named es x
-named-past zero f es x b = rw (tab-none f)
-named-past (suc m) f es x b =
-    rw (tab-first m f, ne-eqb _ _ (b 0 (omega arith))) (named-past m (λ i. f (suc i)) es x (λ j q. b (suc j) (omega arith)))
+named-past : (es fs : List Equation) (x : ℕ) → named es x ≡ none → named (es ++ fs) x ≡ named fs x
+named-past [] fs x h = refl
+named-past (d ∷ es) fs x h = go (eqb (d .name) x) h (named-past es fs x)
+  where
+    go : (b : Bool) → cond b (some d) (named es x) ≡ none → (named es x ≡ none → named (es ++ fs) x ≡ named fs x) → cond b (some d) (named (es ++ fs) x) ≡ named fs x
+    go true q r = cc
+    go false q r = r q
 
 -- the offered equation stands after the held ones
-after-held : (o : KnownOffer) (es : List Equation) → extended o es ≡ es ++ extended o []
-after-held Nothing es = sym (append-nil es)
-after-held (Equate n u v) es = refl
+after-held : (es : List Equation) (o : Option Equation) → extended es o ≡ es ++ extended [] o
+after-held es none = sym (append-nil es)
+after-held es (some e) = refl
 
-module _ (e : Equations) (x r : ℕ) (o : KnownOffer) (first : FirstName (e .name) (e .count) x r) where
-  pub equation-held : r < e .count → some (same (getD (e .left) r 0) (getD (e .right) r 0)) ≡ byEquation (extended o (equationsOf e)) x
-  unfolding equationsOf
-  equation-held h =
-      sym
-      (ap (λ (es : List Equation). byEquation es x) (after-held o (equationsOf e))
-      ∙ ap (λ (q : Option Equation). try q claimOfEquation) (named-first (e .count) (equationAt e) (extended o []) x r h (first .before) (first .found h)))
+module _ (e : Equations) (x r : ℕ) (o : Option Equation) (first : First (e .name) (e .count) x r) where
+  held-then : (q : Option Equation) → named (equationsOf e ++ extended [] o) x ≡ q → try q claimOfEquation ≡ byEquation (extended (equationsOf e) o) x
+  held-then q h = sym (ap (λ (es : List Equation). byEquation es x) (after-held (equationsOf e) o) ∙ ap (λ (p : Option Equation). try p claimOfEquation) h)
 
-  pub equation-offered : e .count ≤ r → (a : Option Claim) → a ≡ byEquation (extended o []) x → a ≡ byEquation (extended o (equationsOf e)) x
-  unfolding equationsOf
-  equation-offered h a d =
-      let q : r ≡ e .count = let z = first .within in omega arith in
-      d
-      ∙ sym
-      (ap (λ (es : List Equation). byEquation es x) (after-held o (equationsOf e))
-      ∙ ap (λ (q : Option Equation). try q claimOfEquation) (named-past (e .count) (equationAt e) (extended o []) x (rw q at (first .before))))
+  pub equation-held : r < e .count → some (same (getD (e .left) r 0) (getD (e .right) r 0)) ≡ byEquation (extended (equationsOf e) o) x
+  equation-held h = held-then (some (equationAt e r)) (named-some (equationsOf e) (extended [] o) x (equationAt e r) (named-first e x r first h))
+
+  pub equation-offered : e .count ≤ r → (a : Option Claim) → a ≡ byEquation (extended [] o) x → a ≡ byEquation (extended (equationsOf e) o) x
+  equation-offered h a d = d ∙ held-then (named (extended [] o) x) (named-past (equationsOf e) (extended [] o) x (named-none e x r first h))

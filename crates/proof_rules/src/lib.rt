@@ -1,4 +1,5 @@
 // The rules that read nodes and equations, over lent arrays.
+ghost use mathlib.Core.Bool.{true};
 ghost use mathlib.Core.List.{[]};
 ghost use mathlib.Core.Option.{some};
 ghost use mathlib.Core.Path.{_≡_};
@@ -6,9 +7,11 @@ ghost use Prim.Native.Nat.{ℕ, _+_, _*_, _≤_, _<_};
 ghost use lib.Dec.{ltb};
 ghost use lib.ListN.{getD};
 ghost use Rattle.base.specs.Tab.{tab};
+ghost use Rattle.graph.specs.Limits.{nodeLimit, childLimit, equationLimit};
+ghost use Rattle.graph.specs.State.{extended};
 ghost use Rattle.graph.specs.Lines.{same, need, functorAt, placeAt, byEquation, byChild, downOf};
 ghost use Rattle.store.specs.Views.{terms, equations, nodesOf, equationsOf};
-ghost use Rattle.proof_rules.specs.Rules.{extended, claimed, placed, labelsCompared, FirstName};
+ghost use Rattle.proof_rules.specs.Rules.{offerOf, offerBelow, claimed, placed, labelsCompared};
 ghost use Rattle.store.specs.declared.Terms.{Terms};
 
 // The child at a place, or that there is none.
@@ -35,15 +38,15 @@ pub const SAME: u8 = 0;
 
 pub const BELOW: u8 = 1;
 
-// Perhaps one offered equation: its name and its two ends.
-pub enum KnownOffer {
+// Perhaps one equation offered beside the held ones: its name, its left and its right end.
+pub enum OfferAsked {
     Nothing,
-    Equate(u16, u8, u8),
+    Equation(u16, u16, u16),
 }
 
 // The child of node `u` at place `p`, counted from 1, of `n`.
 fn place_at(child: &[u8; 256], u: usize, n: u8, p: u8) -> Place
-    requires { ⌜ (u < 64) × (n ≤ 4) ⌝ }
+    requires { ⌜ (u < nodeLimit) × (n ≤ childLimit) ⌝ }
     ensures { λ r. ⌜ placed r ≡ placeAt (tab n (λ j. getD (now (child .entry)) (4 * u + j) 0)) p ⌝ }
 {
     let s: &[u8] = child;
@@ -69,7 +72,7 @@ pub fn compare_labels<'a>(
 ) -> Labels
     ghost { Terms }
     requires { λ g. ⌜ terms n (now kind) (now symbol) (now arity) (now child) ≡ g ⌝ }
-    requires { λ g. ⌜ n ≤ 64 ⌝ }
+    requires { λ g. ⌜ n ≤ nodeLimit ⌝ }
     ensures { λ g r. ⌜ r ≡ labelsCompared (functorAt (nodesOf g) u) (functorAt (nodesOf g) v) ⌝ }
 {
     let a = u as usize;
@@ -98,31 +101,16 @@ pub fn compare_labels<'a>(
     Labels::Equal
 }
 
-// Where the name `x` stands first among the first `m`.
-fn first_name(name: &[u16; 256], m: usize, x: u16) -> usize
-    requires { ⌜ m ≤ 256 ⌝ }
-    ensures { λ r. ⌜ FirstName (now (name .entry)) m x r ⌝ }
-{
-    let s: &[u16] = name;
-    let mut i = 0;
-    while i < m {
-        if s[i] == x {
-            return i;
-        }
-        i += 1;
-    }
-    i
-}
-
 // Rule 1 on the offered equation.
-fn by_offer(o: KnownOffer, x: u16) -> Claimed
-    ensures { λ r. ⌜ claimed r ≡ byEquation (extended o []) x ⌝ }
+fn by_offer(o: OfferAsked, x: u16) -> Claimed
+    requires { ⌜ offerBelow nodeLimit (offerOf o) ≡ true ⌝ }
+    ensures { λ r. ⌜ claimed r ≡ byEquation (extended [] (offerOf o)) x ⌝ }
 {
     match o {
-        KnownOffer::Nothing => Claimed::Breaks,
-        KnownOffer::Equate(name, left, right) => {
+        OfferAsked::Nothing => Claimed::Breaks,
+        OfferAsked::Equation(name, left, right) => {
             if name == x {
-                Claimed::Claims(SAME, left, right)
+                Claimed::Claims(SAME, left as u8, right as u8)
             } else {
                 Claimed::Breaks
             }
@@ -136,13 +124,13 @@ pub fn by_equation<'a>(
     left: &'a [u8; 256],
     right: &'a [u8; 256],
     m: usize,
-    o: KnownOffer,
+    o: OfferAsked,
     x: u16,
 ) -> Claimed
-    requires { ⌜ m ≤ 256 ⌝ }
-    ensures { λ r. ⌜ claimed r ≡ byEquation (extended o (equationsOf (equations m (now (name .entry)) (now (left .entry)) (now (right .entry))))) x ⌝ }
+    requires { ⌜ (m ≤ equationLimit) × (offerBelow nodeLimit (offerOf o) ≡ true) ⌝ }
+    ensures { λ r. ⌜ claimed r ≡ byEquation (extended (equationsOf (equations m (now (name .entry)) (now (left .entry)) (now (right .entry)))) (offerOf o)) x ⌝ }
 {
-    let k = first_name(name, m, x);
+    let k = store::find(name, m, x);
     if k < m {
         let lefts: &[u8] = left;
         let rights: &[u8] = right;
@@ -162,7 +150,7 @@ pub fn by_child<'a>(
     u: u16,
     p: u8,
 ) -> Claimed
-    requires { ⌜ (n ≤ 64) × ((x : ℕ) → x < n → getD (now arity) x 0 ≤ 4) ⌝ }
+    requires { ⌜ (n ≤ nodeLimit) × ((x : ℕ) → x < n → getD (now arity) x 0 ≤ childLimit) ⌝ }
     ensures { λ r. ⌜ claimed r ≡ byChild (nodesOf (terms n (now (kind .entry)) (now (symbol .entry)) (now (arity .entry)) (now (child .entry)))) u p ⌝ }
 {
     let x = u as usize;
@@ -182,7 +170,7 @@ pub fn by_child<'a>(
 
 // Rule 3, of `n` nodes.
 pub fn by_reflexivity(n: usize, u: u16) -> Claimed
-    requires { ⌜ n ≤ 64 ⌝ }
+    requires { ⌜ n ≤ nodeLimit ⌝ }
     ensures { λ r. ⌜ claimed r ≡ need (ltb u n) (some (same u u)) ⌝ }
 {
     if (u as usize) < n {
@@ -203,7 +191,7 @@ pub fn down<'a>(
     u: u8,
     v: u8,
 ) -> Claimed
-    requires { ⌜ (n ≤ 64) × ((x : ℕ) → x < n → getD (now arity) x 0 ≤ 4) ⌝ }
+    requires { ⌜ (n ≤ nodeLimit) × ((x : ℕ) → x < n → getD (now arity) x 0 ≤ childLimit) ⌝ }
     ensures { λ r. ⌜ claimed r ≡ downOf (nodesOf (terms n (now (kind .entry)) (now (symbol .entry)) (now (arity .entry)) (now (child .entry)))) p (same u v) ⌝ }
 {
     let Labels::Equal = compare_labels(kind, symbol, arity, child, n, u, v) else {

@@ -14,7 +14,8 @@ use Rattle.graph.specs.Goals.{Goal, Judgement, passed, refused, broken-line}
 use Rattle.proof_check.specs.Answers.{answerTo}
 use Rattle.unifier.specs.Views.{stateOf, Valid}
 use Rattle.unifier.specs.Replies.{judged}
-use Rattle.unifier.specs.Check.{checkReply, offerBelow, goalBelow, offerNew, Checks}
+use Rattle.proof_rules.specs.Rules.{offerBelow}
+use Rattle.unifier.specs.Check.{checkReply, goalBelow, offerNew, Checks}
 use Rattle.unifier.specs.declared.Workspace.{Workspace}
 use Rattle.unifier.specs.declared.Checked.{Checked}
 use Rattle.unifier.specs.declared.CheckReply.{CheckReply}

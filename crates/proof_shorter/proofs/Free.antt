@@ -4,8 +4,8 @@ use Prim.Native.Nat.{ℕ}
 use contract.Lifetimes.{Lfts}
 use denote.Ref.{RefT}
 use Rattle.unifier.specs.declared.Workspace.{Workspace}
-use Rattle.unifier.specs.declared.OfferAsked.{OfferAsked}
-use Rattle.unifier.specs.declared.GoalAsked.{GoalAsked}
+use Rattle.proof_rules.specs.declared.OfferAsked.{OfferAsked}
+use Rattle.proof_check.specs.declared.GoalAsked.{GoalAsked}
 use Rattle.proof_shorter.proofs.shorter_reply.Reads as shorter-reply
 use Rattle.proof_shorter.proofs.shorter.Reads as shorter
 

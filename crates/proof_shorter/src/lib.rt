@@ -1,7 +1,8 @@
 // The shorter of two proofs. A workspace is Copy, so the caller keeps its own; the calls here hand back a part or a refusal alone, since a
 // struct of a lent part beside a workspace would hold a reference.
 ghost use mathlib.Core.Path.{_≡_};
-ghost use Rattle.unifier.specs.Replies.{goalOf, offerOf};
+ghost use Rattle.proof_rules.specs.Rules.{offerOf};
+ghost use Rattle.proof_check.specs.Answers.{goalOf};
 ghost use Rattle.proof_shorter.specs.Choice.{inList, choice};
 ghost use Rattle.proof_shorter.specs.Contracts.{ChoosesLater, Chooses, Hands};
 use unifier::CheckReply;

@@ -4,8 +4,8 @@ use Prim.Native.Nat.{ℕ}
 use contract.Lifetimes.{Lfts}
 use denote.Ref.{RefT}
 use Rattle.unifier.specs.declared.Workspace.{Workspace}
-use Rattle.unifier.specs.declared.OfferAsked.{OfferAsked}
-use Rattle.unifier.specs.declared.GoalAsked.{GoalAsked}
+use Rattle.proof_rules.specs.declared.OfferAsked.{OfferAsked}
+use Rattle.proof_check.specs.declared.GoalAsked.{GoalAsked}
 use Rattle.unifier.proofs.Workspace.fresh.Reads as fresh
 use Rattle.unifier.proofs.Workspace.declare_variable.Reads as declare-variable
 use Rattle.unifier.proofs.Workspace.declare_functor.Reads as declare-functor

@@ -43,6 +43,9 @@ unpacked s v =
     ap₂ stateWith (nodes-packed (s .nodes) (nodes-fit (s .nodes) t) (few-children (s .nodes) t))
     (equations-packed (s .equations) (equations-fit _ (s .equations) (v .shape .equations)))
 
+pub packed-lists : (s : State) (w : Workspace) → w ≡ packed s → Valid w → stateOf w ≡ s
+packed-lists s w p v = ap stateOf p ∙ unpacked s (subst Valid p v)
+
 -- ---- the fresh workspace
 
 pub fresh-state : stateOf freshWorkspace ≡ emptyState

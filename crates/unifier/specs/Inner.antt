@@ -5,14 +5,14 @@
 --   Refuted, ClashFound, CycleFound   what the solver found of held and offered equations together
 --   Comparing  a solved workspace, two known nodes and a buffer that is long enough
 --   Reported   the line of refusal 12 fits 16 bits
---   Checking   an offer and a goal with known nodes and a new name
+--   Questioned  refusal 4 or 6 of an offer and a goal, 0 where there is none: then the checker answers
 use mathlib.Core.Path.{_≡_}
 use mathlib.Core.List.{List}
 use mathlib.Core.Option.{Option, none, some}
 use Prim.Native.Nat.{ℕ, _≤_, _<_}
 use mathlib.Core.Bool.{true}
 use Rattle.graph.specs.Limits.{bufferBytes}
-use Rattle.graph.specs.State.{Equation, offered}
+use Rattle.graph.specs.State.{Equation, offered, withOffer}
 use Rattle.graph.specs.Goals.{Goal, Judgement, passed, refused, broken-line}
 use Rattle.solve_classes.specs.Table.{Table}
 use Rattle.solve_classes.specs.Exact.{Exact}
@@ -22,9 +22,11 @@ use Rattle.solve_heights.specs.Peel.{Peeled}
 use Rattle.solve.specs.Decided.{Decided}
 use Rattle.solve.specs.declared.Finding.{Finding}
 use Rattle.solve.specs.declared.Finding.the-variants as finding
+use Rattle.proof_rules.specs.Rules.{offerBelow}
+use Rattle.proof_check.specs.Answers.{answerTo}
 use Rattle.unifier_examine.specs.Examines.{Solved}
 use Rattle.unifier.specs.Views.{stateOf, Valid}
-use Rattle.unifier.specs.Check.{offerBelow, goalBelow, offerNew}
+use Rattle.unifier.specs.Check.{checkReply}
 use Rattle.unifier.specs.declared.Workspace.{Workspace}
 
 pub record Classed (w : Workspace) (t : List ℕ) : Type 0 where
@@ -44,11 +46,10 @@ Reported passed = Unit {0}
 Reported (refused k) = Unit {0}
 Reported (broken-line i) = i < 65536
 
-pub record Checking (w : Workspace) (o : Option Equation) (g : Goal) : Type 0 where
-  pub valid : Valid w
-  pub offer-known : offerBelow (w .terms .count) o ≡ true
-  pub goal-known : goalBelow (w .terms .count) g ≡ true
-  pub new : offerNew (stateOf w) o ≡ true
+pub record Questioned (w : Workspace) (o : Option Equation) (g : Goal) (r : ℕ) : Type 0 where
+  pub passed : r ≡ 0 → (bytes : List ℕ) → answerTo (withOffer (stateOf w) o) g bytes ≡ checkReply (stateOf w) o g bytes
+  pub known : r ≡ 0 → offerBelow (w .terms .count) o ≡ true
+  pub refused : (r ≡ 0 → ⊥) → (bytes : List ℕ) → refused r ≡ checkReply (stateOf w) o g bytes
 
 pub record Offering (w : Workspace) (e : Equation) (room : ℕ) (table trace : List ℕ) (steps : ℕ) : Type 0 where
   pub solved : Solved (w .terms) (w .equations) table trace steps

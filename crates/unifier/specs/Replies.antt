@@ -1,13 +1,8 @@
 -- The enums of the replies in document 01's terms.
 --   said      a reply as the book gives it, line counts aside: 8 is a clash, 9 a cycle
 --   judged    the checker's reply: passed, a refusal's number, or the line of refusal 12
---   goalOf    the goal, by graph's
---   offerOf   the offered equation, if there is one
 --   outcome, compared, classified, checked   a reply beside a workspace
-use mathlib.Core.Option.{Option, none, some}
-use Rattle.graph.specs.State.{Equation, equationOf}
-use Rattle.graph.specs.Goals.{Judgement, passed, refused, broken-line, clash-goal, cycle-goal, same-goal, below-goal}
-use Rattle.graph.specs.Goals as goals
+use Rattle.graph.specs.Goals.{Judgement, passed, refused, broken-line}
 use Rattle.graph.specs.Book as book
 use Rattle.unifier.specs.declared.Reply.{Reply}
 use Rattle.unifier.specs.declared.Reply.the-variants.{Node, Held, Gone, Refused, Clash, Cycle}
@@ -20,10 +15,6 @@ use Rattle.unifier.specs.declared.Comparison.{Comparison}
 use Rattle.unifier.specs.declared.Classified.{Classified}
 use Rattle.unifier.specs.declared.ClassReply.{ClassReply}
 use Rattle.unifier.specs.declared.Checked.{Checked}
-use Rattle.unifier.specs.declared.GoalAsked.{GoalAsked}
-use Rattle.unifier.specs.declared.GoalAsked.the-variants as goal
-use Rattle.unifier.specs.declared.OfferAsked.{OfferAsked}
-use Rattle.unifier.specs.declared.OfferAsked.the-variants as offer
 
 abbrev pub said : Reply → book.BookReply
 said (Node i) = book.number i
@@ -37,16 +28,6 @@ abbrev pub judged : CheckReply → Judgement
 judged check.Passed = passed
 judged (check.Refused k) = refused k
 judged (check.Broken i) = broken-line i
-
-abbrev pub goalOf : GoalAsked → goals.Goal
-goalOf goal.Clash = clash-goal
-goalOf goal.Cycle = cycle-goal
-goalOf (goal.Same u v) = same-goal u v
-goalOf (goal.Below u v) = below-goal u v
-
-abbrev pub offerOf : OfferAsked → Option Equation
-offerOf offer.Nothing = none
-offerOf (offer.Equation n u v) = some (equationOf n u v)
 
 -- ---- replies beside a workspace
 

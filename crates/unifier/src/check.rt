@@ -1,13 +1,14 @@
 // Check: refusals 1, 4 and 6, then the checker's own.
-ghost use mathlib.Core.Bool.{true};
 ghost use mathlib.Core.Path.{_≡_};
-ghost use Rattle.graph.specs.State.{State};
-ghost use Rattle.proof_claims.specs.Claims as claims;
-ghost use Rattle.proof_check.specs.Answers as answers;
-ghost use Rattle.unifier.specs.Views.{stateOf, Valid};
-ghost use Rattle.unifier.specs.Replies.{judged, goalOf, offerOf, checked};
-ghost use Rattle.unifier.specs.Check.{bothBelow, offerBelow, goalBelow, offerNew, withOffer, Checks};
-ghost use Rattle.unifier.specs.Inner.{Reported, Checking};
+ghost use Prim.Native.Nat.{_≤_};
+ghost use Rattle.graph.specs.Limits.{equationLimit};
+ghost use Rattle.proof_rules.specs.Rules.{offerOf, bothBelow, offerBelow};
+ghost use Rattle.proof_check.specs.Answers.{goalOf, judgedAs};
+ghost use Rattle.unifier.specs.Views.{stateOf};
+ghost use Rattle.unifier.specs.Replies.{judged, checked};
+ghost use Rattle.unifier.specs.Check.{goalBelow, offerNew, Checks};
+ghost use Rattle.unifier.specs.Inner.{Reported, Questioned};
+ghost use Rattle.unifier.specs.declared.Workspace.{Workspace};
 use super::CheckReply;
 use super::Checked;
 use super::GoalAsked;
@@ -44,32 +45,37 @@ fn goal_below(goal: GoalAsked, n: usize) -> bool
     }
 }
 
-// The offer as the checker takes it: nodes are bytes.
-fn offer_of(offer: OfferAsked) -> proof_rules::KnownOffer
-    requires { ⌜ offerBelow 64 (offerOf offer) ≡ true ⌝ }
-    ensures { λ r. ⌜ ((s : State) → claims.withOffer r s ≡ withOffer s (offerOf offer)) ⌝ }
+// The offered name is none of the first `m`.
+fn offer_new(names: &[u16; 256], m: usize, offer: OfferAsked) -> bool
+    requires { ⌜ m ≤ equationLimit ⌝ }
+    ensures { λ r. ⌜ ((w : Workspace) → w .equations .name ≡ now (names .entry) → w .equations .count ≡ m → r ≡ offerNew (stateOf w) (offerOf offer)) ⌝ }
 {
     match offer {
-        OfferAsked::Nothing => proof_rules::KnownOffer::Nothing,
-        OfferAsked::Equation(name, u, v) => proof_rules::KnownOffer::Equate(name, u as u8, v as u8),
+        OfferAsked::Nothing => true,
+        OfferAsked::Equation(name, _, _) => m <= store::find(names, m, name),
     }
 }
 
-fn goal_of(goal: GoalAsked) -> proof_check::KnownGoal
-    requires { ⌜ goalBelow 64 (goalOf goal) ≡ true ⌝ }
-    ensures { λ r. ⌜ answers.knownGoalOf r ≡ goalOf goal ⌝ }
+// Refusal 4 or 6 of what is asked, or 0: there are `n` nodes, and the first `m` names are held.
+fn refusal(names: &[u16; 256], m: usize, n: usize, offer: OfferAsked, goal: GoalAsked) -> u8
+    requires { ⌜ m ≤ equationLimit ⌝ }
+    ensures { λ r. ⌜ ((w : Workspace) → w .equations .name ≡ now (names .entry) → w .equations .count ≡ m → w .terms .count ≡ n → Questioned w (offerOf offer) (goalOf goal) r) ⌝ }
 {
-    match goal {
-        GoalAsked::Clash => proof_check::KnownGoal::Clash,
-        GoalAsked::Cycle => proof_check::KnownGoal::Cycle,
-        GoalAsked::Same(u, v) => proof_check::KnownGoal::Same(u as u8, v as u8),
-        GoalAsked::Below(u, v) => proof_check::KnownGoal::Below(u as u8, v as u8),
+    if !offer_below(offer, n) {
+        return 4;
     }
+    if !goal_below(goal, n) {
+        return 4;
+    }
+    if !offer_new(names, m, offer) {
+        return 6;
+    }
+    0
 }
 
 fn reply_of(j: Judged) -> CheckReply
-    requires { ⌜ Reported (answers.judgedAs j) ⌝ }
-    ensures { λ r. ⌜ judged r ≡ answers.judgedAs j ⌝ }
+    requires { ⌜ Reported (judgedAs j) ⌝ }
+    ensures { λ r. ⌜ judged r ≡ judgedAs j ⌝ }
 {
     match j {
         Judged::Passes => CheckReply::Passed,
@@ -88,80 +94,39 @@ impl Workspace {
         }
     }
 
-    fn offer_new(self, offer: OfferAsked) -> bool
-        requires { ⌜ Valid self ⌝ }
-        ensures { λ r. ⌜ r ≡ offerNew (stateOf self) (offerOf offer) ⌝ }
-    {
-        match offer {
-            OfferAsked::Nothing => true,
-            OfferAsked::Equation(name, _, _) => {
-                let e = self.equations;
-                let m = e.count;
-                let names = e.name;
-                let k = store::find(&names, m, name);
-                m <= k
-            }
-        }
-    }
-
-    // The checker's answer, once refusals 1, 4 and 6 are past.
-    fn judge(self, offer: OfferAsked, lines: &[u8], goal: GoalAsked) -> Checked
-        requires { ⌜ Checking self (offerOf offer) (goalOf goal) ⌝ }
-        ensures { λ r. ⌜ Checks self (offerOf offer) (goalOf goal) (now (lines .entry)) r ⌝ }
-    {
-        let t = self.terms;
-        let e = self.equations;
-        let n = t.count;
-        let m = e.count;
-        let o = offer_of(offer);
-        let g = goal_of(goal);
-        let j = proof_check::check(
-            &t.kind,
-            &t.symbol,
-            &t.arity,
-            &t.child,
-            n,
-            &e.name,
-            &e.left,
-            &e.right,
-            m,
-            o,
-            lines,
-            g,
-        );
-        let reply = reply_of(j);
-        Checked {
-            reply,
-            workspace: self,
-        }
-    }
-
-    fn check_in(self, offer: OfferAsked, lines: &[u8], goal: GoalAsked) -> Checked
-        requires { ⌜ Valid self ⌝ }
-        ensures { λ r. ⌜ Checks self (offerOf offer) (goalOf goal) (now (lines .entry)) r ⌝ }
-    {
-        let t = self.terms;
-        let n = t.count;
-        if offer_below(offer, n) {
-            if goal_below(goal, n) {
-                if self.offer_new(offer) {
-                    return self.judge(offer, lines, goal);
-                }
-                return self.refuse_check(6);
-            }
-            return self.refuse_check(4);
-        }
-        self.refuse_check(4)
-    }
-
+    // Whether the lines, with the offered equation counted among the held, show the goal.
     pub fn check(self, offer: OfferAsked, lines: &[u8], goal: GoalAsked) -> Checked
         ensures { λ r. ⌜ Checks self (offerOf offer) (goalOf goal) (now (lines .entry)) r ⌝ }
     {
         let mut trace = [0u16; 64];
         let x = self.examined(&mut trace);
-        if x.valid {
-            return self.check_in(offer, lines, goal);
+        if !x.valid {
+            return self.refuse_check(1);
         }
-        self.refuse_check(1)
+        let n = self.terms.count;
+        let m = self.equations.count;
+        let number = refusal(&self.equations.name, m, n, offer, goal);
+        if number != 0 {
+            return self.refuse_check(number);
+        }
+        let j = proof_check::check(
+            &self.terms.kind,
+            &self.terms.symbol,
+            &self.terms.arity,
+            &self.terms.child,
+            n,
+            &self.equations.name,
+            &self.equations.left,
+            &self.equations.right,
+            m,
+            offer,
+            lines,
+            goal,
+        );
+        let reply = reply_of(j);
+        Checked {
+            reply: reply,
+            workspace: self,
+        }
     }
 }

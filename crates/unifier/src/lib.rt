@@ -14,6 +14,8 @@ mod check; // the calls of these names
 mod compare;
 mod equate;
 
+pub use proof_check::GoalAsked; // what check takes
+pub use proof_rules::OfferAsked;
 use graph::CHILDREN;
 use graph::NODES;
 use store::Equations;
@@ -65,20 +67,6 @@ pub enum ClassReply {
 pub struct Classified {
     pub reply: ClassReply,
     pub workspace: Workspace,
-}
-
-// An equation offered beside the held ones: name, left, right.
-pub enum OfferAsked {
-    Nothing,
-    Equation(u16, u16, u16),
-}
-
-// What a proof is to show.
-pub enum GoalAsked {
-    Clash,
-    Cycle,
-    Same(u16, u16),
-    Below(u16, u16),
 }
 
 // Refusal 12 has the line.

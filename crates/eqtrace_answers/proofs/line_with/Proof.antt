@@ -8,12 +8,12 @@ use Rattle.eqtrace_answers.proofs.line_with.Tie as tie
 put-headed-requires : tie.Need-put-headed-requires
 put-headed-requires c κs = (search needs, search needs, omega (arith, c .before .before .before .before .before .before .before .before .pre .2, c .before .before .before .put-word .ensures .end))
 
-put-end-requires : tie.Need-put-end-requires
-put-end-requires c κs = let a = c .before .before .before .before .before .before .before .before .before .before .before .before .args in omega (arith, c .before .before .before .before .before .before .before .before .before .before .before .before .pre .2, c .before .before .before .before .before .before .before .put-word .ensures .end, end-headed (a .x) (a .n) (a .names .now) (search needs) (c .before .before .before .put-headed .ensures))
+put-requires : tie.Need-put-requires
+put-requires c κs = let a = c .before .before .before .before .before .before .before .before .before .before .before .before .args in omega (arith, c .before .before .before .before .before .before .before .before .before .before .before .before .pre .2, c .before .before .before .before .before .before .before .put-word .ensures .end, end-headed (a .x) (a .n) (a .names .now) (search needs) (c .before .before .before .put-headed .ensures))
 
 returns : tie.Need-returns
-returns c = puts-line _ _ _ _ _ _ _ _ _ (c .before .before .before .before .before .before .before .before .before .before .put-word .ensures) (c .before .before .before .before .before .before .put-headed .ensures) (c .before .before .put-end .ensures)
+returns c = puts-line _ _ _ _ _ _ _ _ _ (c .before .before .before .before .before .before .before .before .before .before .put-word .ensures) (c .before .before .before .before .before .before .put-headed .ensures) (c .before .before .put .ensures)
 
 pub line-with-spec : {M : Type 1} → statement M
 line-with-spec =
-    tie.close (tie.spec (λ c κs. search needs) put-headed-requires put-end-requires (λ c. search needs) returns)
+    tie.close (tie.spec (λ c κs. search needs) put-headed-requires put-requires (λ c. search needs) returns)

@@ -1,6 +1,5 @@
 -- `eqtrace_answers::put_headed` meets its contract.
 use lib.ListN.{take}
--- `eqtrace_answers::put_headed` meets its contract.
 use Rattle.eqtrace_answers.proofs.PutLaws.{puts-headed, end-one}
 use native.Mathlib.Omega.{arith}
 use borrow.Author.Needs.{needs}

@@ -5,8 +5,9 @@ use mathlib.Core.Logic.{⊎-elim}
 use denote.Enum.Declared.{tagOf}
 use lib.ListN.{length, length-replicate}
 use Rattle.proof_lines.proofs.Decoded.{the-type}
+use Rattle.graph.specs.State.{withOffer}
 use Rattle.store.specs.Views.{terms, equations, stateFrom}
-use Rattle.proof_claims.specs.Claims.{withOffer}
+use Rattle.proof_rules.specs.Rules.{offerOf}
 use Rattle.proof_check.proofs.WalkLaws.{Walking, walking-none, walking-refused, walking-broken, walking-more, walking-end}
 use native.Mathlib.Omega.{arith}
 use borrow.Author.Needs.{needs}
@@ -15,7 +16,7 @@ use Rattle.proof_check.proofs.walk.Tie as tie
 
 abbrev Inv-loop : tie.InvT-loop
 Inv-loop kind symbol arity child n name left right m offer bytes kinds₀ starts₀ ends₀ count i₀ kinds starts ends i =
-    Walking (withOffer offer (stateFrom (terms n kind symbol arity child) (equations m name left right))) bytes kinds starts ends i
+    Walking (withOffer (stateFrom (terms n kind symbol arity child) (equations m name left right)) (offerOf offer)) bytes kinds starts ends i
 
 abbrev μ-loop : tie.MeasureT-loop
 μ-loop kind symbol arity child n name left right m offer bytes kinds₀ starts₀ ends₀ count i₀ kinds starts ends i =

@@ -19,4 +19,4 @@ returns-3 c = rw (← c .before .before .pair .ensures, ne-eqb _ _ (c .before .i
 
 pub is-counted-spec : {M : Type 1} → statement M
 is-counted-spec =
-    tie.close (tie.spec (λ c κs. search needs) returns returns-2 (λ c. search needs) (λ c. search needs) returns-3)
+    tie.close (tie.spec (λ c κs. search needs) (λ c. search needs) returns returns-2 (λ c. search needs) (λ c. search needs) returns-3)

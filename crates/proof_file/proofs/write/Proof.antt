@@ -2,7 +2,8 @@
 use mathlib.Core.Path.{refl, sym, _∙_}
 use lib.ListN.{length}
 use borrow.Author.Tests.{lt-ltb, le-ltb}
-use Rattle.proof_file.proofs.FileLaws.{length-whole, pasted}
+use Rattle.proof_check.proofs.LengthLaws.{length-whole}
+use Rattle.proof_file.proofs.FileLaws.{pasted}
 use native.Mathlib.Omega.{arith}
 use borrow.Author.Needs.{needs}
 use Rattle.proof_file.proofs.write.Statement.{statement}

@@ -1,7 +1,7 @@
--- `proof_file::bad_length` meets its contract.
+-- `proof_check::bad_length` meets its contract.
 use borrow.Author.Tests.{eq-eqb, ne-eqb, lt-ltb, le-ltb}
-use Rattle.proof_file.proofs.bad_length.Statement.{statement}
-use Rattle.proof_file.proofs.bad_length.Tie as tie
+use Rattle.proof_check.proofs.bad_length.Statement.{statement}
+use Rattle.proof_check.proofs.bad_length.Tie as tie
 
 returns : tie.Need-returns
 returns c = rw (eq-eqb _ _ (c .if1 .taken))
