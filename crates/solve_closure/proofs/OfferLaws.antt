@@ -6,7 +6,8 @@ use mathlib.Core.List.{List, [], _∷_}
 use Prim.Native.Nat.{ℕ, _<_}
 use native.Mathlib.Omega.{arith}
 use Rattle.graph.specs.State.{Equation, State, IsNode, Held, offered}
-use Rattle.graph.proofs.StateLaws.{found-snoc, proper-offered}
+use Rattle.base.proofs.ListLaws.{found-snoc}
+use Rattle.graph.proofs.ProperLaws.{proper-offered}
 use Rattle.base.proofs.ListLaws.{found-append, found-last}
 use Rattle.solve_classes.specs.Table.{class}
 use Rattle.store.specs.declared.Terms.{Terms}

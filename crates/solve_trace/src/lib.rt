@@ -54,12 +54,6 @@ pub fn place_of(e: u16) -> usize
     e as usize / PLACE_BASE
 }
 
-pub fn wide(x: u8) -> usize
-    ensures { λ r. ⌜ r ≡ x ⌝ }
-{
-    x as usize
-}
-
 // The classes of `x` and `y` become one; where they were two, the trace gets the entry `reason`.
 pub fn join(
     table: [u8; 64],

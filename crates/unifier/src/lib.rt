@@ -15,9 +15,9 @@ mod compare;
 mod equate;
 
 pub use proof_check::GoalAsked; // what check takes
-pub use proof_rules::OfferAsked;
 use graph::CHILDREN;
 use graph::NODES;
+pub use proof_rules::OfferAsked;
 use store::Equations;
 use store::Terms;
 use unifier_examine::Examined;
