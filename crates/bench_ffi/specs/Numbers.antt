@@ -1,5 +1,4 @@
--- Workspaces and replies as numbers, for callers in other languages.
---   opened, flat   a workspace from its flat form, and back
+-- Replies as numbers, for callers in other languages.
 --   told, ..       a reply as three numbers, with the workspace: 0 a refusal, its number and, with 8, 9 and 12, the count of proof
 --                  lines or the line; 1 a node; 2 held; 3 gone; 4 same, 5 below, 6 above, each with the count of proof lines;
 --                  7 apart; 8 a class, its lowest node and size; 9 passed
@@ -15,32 +14,10 @@ use Rattle.unifier.specs.declared.ClassReply.{ClassReply}
 use Rattle.unifier.specs.declared.ClassReply.the-variants as class
 use Rattle.unifier.specs.declared.CheckReply.{CheckReply}
 use Rattle.unifier.specs.declared.CheckReply.the-variants as check
-use Rattle.bench_ffi.specs.declared.calls.Space.{Space}
 use Rattle.bench_ffi.specs.declared.calls.ReplyNumbers.{ReplyNumbers}
 
-abbrev pub opened : Space → Workspace
-opened s =
-    record {
-      terms = record { count = s .nodes; kind = s .kind; symbol = s .symbol; arity = s .arity; child = s .child };
-      equations = record { count = s .held; name = s .name; left = s .left; right = s .right };
-    }
-
-abbrev pub flat : Workspace → Space
-flat w =
-    record {
-      nodes = w .terms .count;
-      kind = w .terms .kind;
-      symbol = w .terms .symbol;
-      arity = w .terms .arity;
-      child = w .terms .child;
-      held = w .equations .count;
-      name = w .equations .name;
-      left = w .equations .left;
-      right = w .equations .right;
-    }
-
 abbrev pub toldOf : ℕ → ℕ → ℕ → Workspace → ReplyNumbers
-toldOf k i j w = record { said = k; number = i; second = j; space = flat w }
+toldOf k i j w = record { said = k; number = i; second = j; workspace = w }
 
 abbrev pub told : Reply → Workspace → ReplyNumbers
 told (Node i) w = toldOf 1 i 0 w

@@ -9,9 +9,7 @@ ghost use Rattle.unifier.specs.Equate.{Equates};
 ghost use Rattle.unifier.specs.Compare.{Compares};
 ghost use Rattle.unifier.specs.Class.{Classifies};
 ghost use Rattle.unifier.specs.Check.{Checks};
-ghost use Rattle.bench_ffi.specs.Numbers.{opened, flat, toldOf, told, toldComparison, toldClass, toldCheck, ByNumbers};
-use store::Equations;
-use store::Terms;
+ghost use Rattle.bench_ffi.specs.Numbers.{toldOf, told, toldComparison, toldClass, toldCheck, ByNumbers};
 use unifier::CheckReply;
 use unifier::ClassReply;
 use unifier::Comparison;
@@ -20,89 +18,23 @@ use unifier::OfferAsked;
 use unifier::Reply;
 use unifier::Workspace;
 
-// A workspace: its nodes, then its held equations.
-#[repr(C)]
-pub struct Space {
-    pub nodes: usize,
-    pub kind: [u8; 64],
-    pub symbol: [u16; 64],
-    pub arity: [u8; 64],
-    pub child: [u8; 256],
-    pub held: usize,
-    pub name: [u16; 256],
-    pub left: [u8; 256],
-    pub right: [u8; 256],
-}
-
 // A reply, and the workspace after it. See `told` for the numbers.
 #[repr(C)]
 pub struct ReplyNumbers {
     pub said: u8,
     pub number: u16,
     pub second: u16,
-    pub space: Space,
-}
-
-fn open(space: Space) -> Workspace
-    ensures { λ r. ⌜ r ≡ opened space ⌝ }
-{
-    let kind = space.kind;
-    let symbol = space.symbol;
-    let arity = space.arity;
-    let child = space.child;
-    let terms = Terms {
-        count: space.nodes,
-        kind,
-        symbol,
-        arity,
-        child,
-    };
-    let name = space.name;
-    let left = space.left;
-    let right = space.right;
-    let equations = Equations {
-        count: space.held,
-        name,
-        left,
-        right,
-    };
-    Workspace { terms, equations }
-}
-
-fn flatten(w: Workspace) -> Space
-    ensures { λ r. ⌜ r ≡ flat w ⌝ }
-{
-    let t = w.terms;
-    let e = w.equations;
-    let kind = t.kind;
-    let symbol = t.symbol;
-    let arity = t.arity;
-    let child = t.child;
-    let name = e.name;
-    let left = e.left;
-    let right = e.right;
-    Space {
-        nodes: t.count,
-        kind,
-        symbol,
-        arity,
-        child,
-        held: e.count,
-        name,
-        left,
-        right,
-    }
+    pub workspace: Workspace,
 }
 
 fn say(said: u8, number: u16, second: u16, w: Workspace) -> ReplyNumbers
     ensures { λ r. ⌜ r ≡ toldOf said number second w ⌝ }
 {
-    let space = flatten(w);
     ReplyNumbers {
         said,
         number,
         second,
-        space,
+        workspace: w,
     }
 }
 
@@ -151,10 +83,9 @@ fn tell_check(reply: CheckReply, w: Workspace) -> ReplyNumbers
 }
 
 #[no_mangle]
-pub extern "C" fn ffi_withdraw(space: Space, name: u16) -> ReplyNumbers
-    ensures { λ r. ⌜ ByNumbers (Answers (opened space) (book.withdraw name)) (λ o. told (o .reply) (o .workspace)) r ⌝ }
+pub extern "C" fn ffi_withdraw(w: Workspace, name: u16) -> ReplyNumbers
+    ensures { λ r. ⌜ ByNumbers (Answers w (book.withdraw name)) (λ o. told (o .reply) (o .workspace)) r ⌝ }
 {
-    let w = open(space);
     let o = w.withdraw(name);
     let after = o.workspace;
     let reply = o.reply;
@@ -163,15 +94,14 @@ pub extern "C" fn ffi_withdraw(space: Space, name: u16) -> ReplyNumbers
 
 #[no_mangle]
 pub extern "C" fn ffi_equate(
-    space: Space,
+    w: Workspace,
     name: u16,
     left: u16,
     right: u16,
     proof: &mut [u8],
 ) -> ReplyNumbers
-    ensures { λ r. ⌜ ByNumbers (Equates (opened space) (equationOf name left right) (now (proof .entry)) (now (proof .exit))) (λ o. told (o .reply) (o .workspace)) r ⌝ }
+    ensures { λ r. ⌜ ByNumbers (Equates w (equationOf name left right) (now (proof .entry)) (now (proof .exit))) (λ o. told (o .reply) (o .workspace)) r ⌝ }
 {
-    let w = open(space);
     let o = w.equate(name, left, right, proof);
     let after = o.workspace;
     let reply = o.reply;
@@ -179,10 +109,9 @@ pub extern "C" fn ffi_equate(
 }
 
 #[no_mangle]
-pub extern "C" fn ffi_compare(space: Space, u: u16, v: u16, proof: &mut [u8]) -> ReplyNumbers
-    ensures { λ r. ⌜ ByNumbers (Compares (opened space) u v (now (proof .entry)) (now (proof .exit))) (λ o. toldComparison (o .reply) (o .workspace)) r ⌝ }
+pub extern "C" fn ffi_compare(w: Workspace, u: u16, v: u16, proof: &mut [u8]) -> ReplyNumbers
+    ensures { λ r. ⌜ ByNumbers (Compares w u v (now (proof .entry)) (now (proof .exit))) (λ o. toldComparison (o .reply) (o .workspace)) r ⌝ }
 {
-    let w = open(space);
     let o = w.compare(u, v, proof);
     let after = o.workspace;
     let reply = o.reply;
@@ -190,10 +119,9 @@ pub extern "C" fn ffi_compare(space: Space, u: u16, v: u16, proof: &mut [u8]) ->
 }
 
 #[no_mangle]
-pub extern "C" fn ffi_class_of(space: Space, u: u16) -> ReplyNumbers
-    ensures { λ r. ⌜ ByNumbers (Classifies (opened space) u) (λ o. toldClass (o .reply) (o .workspace)) r ⌝ }
+pub extern "C" fn ffi_class_of(w: Workspace, u: u16) -> ReplyNumbers
+    ensures { λ r. ⌜ ByNumbers (Classifies w u) (λ o. toldClass (o .reply) (o .workspace)) r ⌝ }
 {
-    let w = open(space);
     let o = w.class_of(u);
     let after = o.workspace;
     let reply = o.reply;
@@ -202,10 +130,9 @@ pub extern "C" fn ffi_class_of(space: Space, u: u16) -> ReplyNumbers
 
 // Whether the lines show same(u, v), with no equation offered.
 #[no_mangle]
-pub extern "C" fn ffi_check_same(space: Space, lines: &[u8], u: u16, v: u16) -> ReplyNumbers
-    ensures { λ r. ⌜ ByNumbers (Checks (opened space) none (same-goal u v) (now (lines .entry))) (λ o. toldCheck (o .reply) (o .workspace)) r ⌝ }
+pub extern "C" fn ffi_check_same(w: Workspace, lines: &[u8], u: u16, v: u16) -> ReplyNumbers
+    ensures { λ r. ⌜ ByNumbers (Checks w none (same-goal u v) (now (lines .entry))) (λ o. toldCheck (o .reply) (o .workspace)) r ⌝ }
 {
-    let w = open(space);
     let o = w.check(OfferAsked::Nothing, lines, GoalAsked::Same(u, v));
     let after = o.workspace;
     let reply = o.reply;

@@ -5,7 +5,7 @@ use Rattle.bench_ffi.proofs.calls.ffi_withdraw.Statement.{statement}
 use Rattle.bench_ffi.proofs.calls.ffi_withdraw.Tie as tie
 
 returns : tie.Need-returns
-returns c = answers (c .before .before .before .«open» .ensures) (c .before .before .withdraw .ensures) (c .tell .ensures)
+returns c = answers (c .before .before .withdraw .ensures) (c .tell .ensures)
 
 pub ffi-withdraw-spec : {M : Type 1} → statement M
-ffi-withdraw-spec = tie.close (tie.spec (λ c κs. search needs) (λ c κs. search needs) (λ c κs. search needs) returns)
+ffi-withdraw-spec = tie.close (tie.spec (λ c κs. search needs) (λ c κs. search needs) returns)
