@@ -1,5 +1,5 @@
 -- Equate past its early refusals: what the verdict asks, and the reply to each.
-use mathlib.Core.Path.{_≡_, refl, sym, ap, subst}
+use mathlib.Core.Path.{_≡_, refl, sym, ap, _∙_, subst}
 use mathlib.Core.Bool.{Bool, true, false, _&&_, cond}
 use mathlib.Core.List.{List}
 use mathlib.Core.Option.{Option, none, some}
@@ -11,6 +11,7 @@ use borrow.Author.Tests.{ltb-true, ltb-false, leb-false}
 use Rattle.graph.specs.State.{State, stateWith, Equation, nameHeld, offered}
 use Rattle.graph.specs.Goals.{Goal, clash-goal, cycle-goal}
 use Rattle.graph.specs.Book as book
+use Rattle.base.proofs.AbsurdLaws.{true-is-false}
 use Rattle.base.proofs.BoolLaws.{and-left, and-right}
 use Rattle.proof_lines.specs.Proof.{ProofIn}
 use Rattle.store.specs.Views.{nodesOf, stateFrom}
@@ -30,10 +31,24 @@ use Rattle.unifier_respond.specs.Shows.{ProofRoom}
 use Rattle.unifier.specs.Views.{workspaceOf, stateOf, Valid}
 use Rattle.unifier.specs.Replies.{outcome}
 use Rattle.unifier.specs.Equate.{Equates}
-use Rattle.unifier.specs.Inner.{Offering, Refuted}
+use Rattle.unifier.specs.Inner.{Offering, Refuted, isHeld, Settles}
 use Rattle.unifier.specs.declared.Workspace.{Workspace}
+use Rattle.unifier.specs.declared.Reply.{Reply}
 use Rattle.unifier.specs.declared.Reply.the-variants as says
 use Rattle.unifier.proofs.Laws.{equate-held, equate-clash, equate-cycle}
+
+-- a reply that doesn't hold the equation leaves the workspace
+pub settles-refused : (w : Workspace) (e : Equation) (before after : List ℕ) (r : Reply) → isHeld r ≡ false → Equates w e before after (outcome r w) → Settles w e before after r
+settles-refused w e before after r h q = record { equates = rw h q; place = λ z. true-is-false (sym z ∙ h) }
+
+-- and back: what the reply settles is what equate promises
+module _ (w : Workspace) (e : Equation) (before after : List ℕ) (r : Reply) where
+  pub settled-held : isHeld r ≡ true → Settles w e before after r
+      → Equates w e before after (outcome r (workspaceOf (w .terms) (withEquation (w .equations) (e .name) (e .left) (e .right))))
+  settled-held h s = rw h at (s .equates)
+
+  pub settled-refused : isHeld r ≡ false → Settles w e before after r → Equates w e before after (outcome r w)
+  settled-refused h s = rw h at (s .equates)
 
 -- none of the four tests refuses
 tests : (x y z t : Bool) → _≡_ {A = Option ℕ} (cond x (some 5) (cond y (cond z (some 6) (cond t (some 7) none)) (some 4))) none
@@ -104,12 +119,15 @@ module _ (w : Workspace) (e : Equation) (before table trace : List ℕ) (steps :
     pub refuted : (f : Finding) → v ≡ f → Refuted w e (length before) after heights out n f
     refuted f q = record { valid = valid; past = o .past; decided = subst (Decided (offered (stateOf w) e) after heights out n) q decided }
 
-    pub offer-held : v ≡ finding.Solved → Equates w e before before (outcome says.Held (workspaceOf (w .terms) (withEquation (w .equations) (e .name) (e .left) (e .right))))
+    offer-held : v ≡ finding.Solved → Equates w e before before (outcome says.Held (workspaceOf (w .terms) (withEquation (w .equations) (e .name) (e .left) (e .right))))
     offer-held q =
         let p = puts-equation (w .equations) (e .name) (e .left) (e .right) (full (o .solved .shape .equations)) (equations-few w e before (o .past)) (w .equations .count) (w .equations .count) (w .equations .count) refl refl refl in
         equate-held w e before valid (o .past) (withEquation (w .equations) (e .name) (e .left) (e .right)) (p .held)
         (p .shape (w .terms .count) (o .solved .shape .equations) offering-left offering-right (name-new w e before (o .past)))
         (rw q at (decided .verdict)) (solved-just decided .0 (rw q refl))
+
+    pub settles-held : v ≡ finding.Solved → Settles w e before before says.Held
+    settles-held q = record { equates = offer-held q; place = λ z. record { shape = o .solved .shape; few = equations-few w e before (o .past); left-known = offering-left; right-known = offering-right } }
 
 -- ---- refusals 8 and 9: d is the held equations with e at their end
 
@@ -136,8 +154,8 @@ module _ (w : Workspace) (e : Equation) (before : List ℕ) {table heights trace
       moved : (g : Goal) → ProofIn (stateFrom (w .terms) d) g n before after → ProofIn (offered (stateOf w) e) g n before after
       moved g = subst (λ (s : State). ProofIn s g n before after) same-state
 
-      pub refused-clash : number v ≡ 8 → ProofIn (stateFrom (w .terms) d) clash-goal n before after → Equates w e before after (outcome (says.Clash n) w)
-      refused-clash q l = equate-clash w e before (f .valid) (f .past) n after (rw q at (f .decided .verdict)) (moved clash-goal l)
+      pub settles-clash : number v ≡ 8 → ProofIn (stateFrom (w .terms) d) clash-goal n before after → Settles w e before after (says.Clash n)
+      settles-clash q l = settles-refused w e before after (says.Clash n) refl (equate-clash w e before (f .valid) (f .past) n after (rw q at (f .decided .verdict)) (moved clash-goal l))
 
-      pub refused-cycle : number v ≡ 9 → ProofIn (stateFrom (w .terms) d) cycle-goal n before after → Equates w e before after (outcome (says.Cycle n) w)
-      refused-cycle q l = equate-cycle w e before (f .valid) (f .past) n after (rw q at (f .decided .verdict)) (moved cycle-goal l)
+      pub settles-cycle : number v ≡ 9 → ProofIn (stateFrom (w .terms) d) cycle-goal n before after → Settles w e before after (says.Cycle n)
+      settles-cycle q l = settles-refused w e before after (says.Cycle n) refl (equate-cycle w e before (f .valid) (f .past) n after (rw q at (f .decided .verdict)) (moved cycle-goal l))

@@ -3,6 +3,7 @@
 --   Early      the number of the first refusal that the two lists decide, 0 where they decide none
 --   Offering   a solved workspace, and an equation that none of 5, 4, 6 and 7 refuses
 --   Refuted, ClashFound, CycleFound   what the solver found of held and offered equations together
+--   Settles    equate's reply; the workspace after it is `placed`
 --   Comparing  a solved workspace, two known nodes and a buffer that is long enough
 --   Reported   the line of refusal 12 fits 16 bits
 --   Questioned  refusal 4 or 6 of an offer and a goal, 0 where there is none: then the checker answers
@@ -10,8 +11,8 @@ use mathlib.Core.Path.{_≡_}
 use mathlib.Core.List.{List}
 use mathlib.Core.Option.{Option, none, some}
 use Prim.Native.Nat.{ℕ, _≤_, _<_}
-use mathlib.Core.Bool.{true}
-use Rattle.graph.specs.Limits.{bufferBytes}
+use mathlib.Core.Bool.{Bool, true, false}
+use Rattle.graph.specs.Limits.{equationLimit, bufferBytes}
 use Rattle.graph.specs.State.{Equation, offered, withOffer}
 use Rattle.graph.specs.Goals.{Goal, Judgement, passed, refused, broken-line}
 use Rattle.solve_classes.specs.Table.{Table}
@@ -25,9 +26,15 @@ use Rattle.solve.specs.declared.Finding.the-variants as finding
 use Rattle.proof_rules.specs.Rules.{offerBelow}
 use Rattle.proof_check.specs.Answers.{answerTo}
 use Rattle.unifier_examine.specs.Examines.{Solved}
-use Rattle.unifier.specs.Views.{stateOf, Valid}
+use Rattle.store.specs.Shape.{Shape}
+use Rattle.store.specs.Operations.{withEquation}
+use Rattle.unifier.specs.Views.{workspaceOf, stateOf, Valid}
+use Rattle.unifier.specs.Replies.{outcome}
+use Rattle.unifier.specs.Equate.{Equates}
 use Rattle.unifier.specs.Check.{checkReply}
 use Rattle.unifier.specs.declared.Workspace.{Workspace}
+use Rattle.unifier.specs.declared.Reply.{Reply}
+use Rattle.unifier.specs.declared.Reply.the-variants as reply
 
 pub record Classed (w : Workspace) (t : List ℕ) : Type 0 where
   pub valid : Valid w
@@ -69,6 +76,32 @@ pub record ClashFound (w : Workspace) (e : Equation) (room : ℕ) (trace : List 
 pub record CycleFound (w : Workspace) (e : Equation) (room : ℕ) (table heights : List ℕ) (left : ℕ) (trace : List ℕ) (steps : ℕ) : Type 0 where
   pub refuted : Refuted w e room table heights trace steps finding.Cycle
   pub peeled : Peeled (w .terms) table heights left
+
+-- ---- what equate replies, and does
+
+abbrev pub isHeld : Reply → Bool
+isHeld (reply.Node i) = false
+isHeld reply.Held = true
+isHeld reply.Gone = false
+isHeld (reply.Refused k) = false
+isHeld (reply.Clash n) = false
+isHeld (reply.Cycle n) = false
+
+-- the equation is put at the end where it is held
+abbrev pub placed : Workspace → Equation → Bool → Workspace
+placed w e true = workspaceOf (w .terms) (withEquation (w .equations) (e .name) (e .left) (e .right))
+placed w e false = w
+
+-- there is a place for the equation, and its ends are known nodes
+pub record PlaceFor (w : Workspace) (e : Equation) : Type 0 where
+  pub shape : Shape (w .terms) (w .equations)
+  pub few : w .equations .count < equationLimit
+  pub left-known : e .left < w .terms .count
+  pub right-known : e .right < w .terms .count
+
+pub record Settles (w : Workspace) (e : Equation) (before after : List ℕ) (r : Reply) : Type 0 where
+  pub equates : Equates w e before after (outcome r (placed w e (isHeld r)))
+  pub place : isHeld r ≡ true → PlaceFor w e
 
 pub record Comparing (w : Workspace) (u v size : ℕ) (table trace : List ℕ) (steps : ℕ) : Type 0 where
   pub solved : Solved (w .terms) (w .equations) table trace steps
