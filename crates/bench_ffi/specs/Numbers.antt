@@ -1,9 +1,10 @@
 -- Replies as numbers, for callers in other languages.
---   told, ..       a reply as three numbers, with the workspace: 0 a refusal, its number and, with 8, 9 and 12, the count of proof
+--   told, ..       a reply as three numbers: 0 a refusal, its number and, with 8, 9 and 12, the count of proof
 --                  lines or the line; 1 a node; 2 held; 3 gone; 4 same, 5 below, 6 above, each with the count of proof lines;
 --                  7 apart; 8 a class, its lowest node and size; 9 passed
---   ByNumbers      what a call promises of its result, of which the numbers are told
+--   ByNumbers      what a call promises of its result, told by these numbers and the workspace
 use mathlib.Core.Path.{_≡_}
+use mathlib.Core.List.{List, [], _∷_}
 use Prim.Native.Nat.{ℕ}
 use Rattle.unifier.specs.declared.Workspace.{Workspace}
 use Rattle.unifier.specs.declared.Reply.{Reply}
@@ -14,36 +15,36 @@ use Rattle.unifier.specs.declared.ClassReply.{ClassReply}
 use Rattle.unifier.specs.declared.ClassReply.the-variants as class
 use Rattle.unifier.specs.declared.CheckReply.{CheckReply}
 use Rattle.unifier.specs.declared.CheckReply.the-variants as check
-use Rattle.bench_ffi.specs.declared.calls.ReplyNumbers.{ReplyNumbers}
 
-abbrev pub toldOf : ℕ → ℕ → ℕ → Workspace → ReplyNumbers
-toldOf k i j w = record { said = k; number = i; second = j; workspace = w }
+abbrev pub toldOf : ℕ → ℕ → ℕ → List ℕ
+toldOf k i j = k ∷ (i ∷ (j ∷ []))
 
-abbrev pub told : Reply → Workspace → ReplyNumbers
-told (Node i) w = toldOf 1 i 0 w
-told Held w = toldOf 2 0 0 w
-told Gone w = toldOf 3 0 0 w
-told (Refused k) w = toldOf 0 k 0 w
-told (Clash n) w = toldOf 0 8 n w
-told (Cycle n) w = toldOf 0 9 n w
+abbrev pub told : Reply → List ℕ
+told (Node i) = toldOf 1 i 0
+told Held = toldOf 2 0 0
+told Gone = toldOf 3 0 0
+told (Refused k) = toldOf 0 k 0
+told (Clash n) = toldOf 0 8 n
+told (Cycle n) = toldOf 0 9 n
 
-abbrev pub toldComparison : Comparison → Workspace → ReplyNumbers
-toldComparison (stands.Same n) w = toldOf 4 n 0 w
-toldComparison (stands.Below n) w = toldOf 5 n 0 w
-toldComparison (stands.Above n) w = toldOf 6 n 0 w
-toldComparison stands.Apart w = toldOf 7 0 0 w
-toldComparison (stands.Refused k) w = toldOf 0 k 0 w
+abbrev pub toldComparison : Comparison → List ℕ
+toldComparison (stands.Same n) = toldOf 4 n 0
+toldComparison (stands.Below n) = toldOf 5 n 0
+toldComparison (stands.Above n) = toldOf 6 n 0
+toldComparison stands.Apart = toldOf 7 0 0
+toldComparison (stands.Refused k) = toldOf 0 k 0
 
-abbrev pub toldClass : ClassReply → Workspace → ReplyNumbers
-toldClass (class.Class low size) w = toldOf 8 low size w
-toldClass (class.Refused k) w = toldOf 0 k 0 w
+abbrev pub toldClass : ClassReply → List ℕ
+toldClass (class.Class low size) = toldOf 8 low size
+toldClass (class.Refused k) = toldOf 0 k 0
 
-abbrev pub toldCheck : CheckReply → Workspace → ReplyNumbers
-toldCheck check.Passed w = toldOf 9 0 0 w
-toldCheck (check.Refused k) w = toldOf 0 k 0 w
-toldCheck (check.Broken i) w = toldOf 0 12 i w
+abbrev pub toldCheck : CheckReply → List ℕ
+toldCheck check.Passed = toldOf 9 0 0
+toldCheck (check.Refused k) = toldOf 0 k 0
+toldCheck (check.Broken i) = toldOf 0 12 i
 
-pub record ByNumbers {A : Type 0} (P : A → Type 0) (f : A → ReplyNumbers) (r : ReplyNumbers) : Type 0 where
+pub record ByNumbers {A : Type 0} (P : A → Type 0) (numbers : A → List ℕ) (space : A → Workspace) (ns : List ℕ) (w : Workspace) : Type 0 where
   pub result : A
   pub promise : P result
-  pub says : r ≡ f result
+  pub says : ns ≡ numbers result
+  pub after : w ≡ space result

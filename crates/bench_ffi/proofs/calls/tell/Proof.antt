@@ -6,22 +6,22 @@ use Rattle.bench_ffi.proofs.calls.tell.Statement.{statement}
 use Rattle.bench_ffi.proofs.calls.tell.Tie as tie
 
 returns : tie.Need-returns
-returns c = says told (c .before .before .before .before .args .w) (c .before .before .reply .given .1) (c .say .ensures)
+returns c = says told (c .before .before .reply .given .1) (c .three .ensures)
 
 returns-2 : tie.Need-returns-2
-returns-2 c = says told (c .before .before .before .args .w) (c .before .enum-told .given .1) (c .say2 .ensures)
+returns-2 c = says told (c .before .enum-told .given .1) (c .three2 .ensures)
 
 returns-3 : tie.Need-returns-3
-returns-3 c = says told (c .before .before .before .args .w) (c .before .enum-told2 .given .1) (c .say3 .ensures)
+returns-3 c = says told (c .before .enum-told2 .given .1) (c .three3 .ensures)
 
 returns-4 : tie.Need-returns-4
-returns-4 c = says told (c .before .before .before .before .args .w) (c .before .before .reply2 .given .1) (c .say4 .ensures)
+returns-4 c = says told (c .before .before .reply2 .given .1) (c .three4 .ensures)
 
 returns-5 : tie.Need-returns-5
-returns-5 c = says told (c .before .before .before .before .args .w) (c .before .before .reply3 .given .1) (c .say5 .ensures)
+returns-5 c = says told (c .before .before .reply3 .given .1) (c .three5 .ensures)
 
 returns-6 : tie.Need-returns-6
-returns-6 c = says told (c .before .before .before .before .args .w) (c .before .before .reply4 .given .1) (c .say6 .ensures)
+returns-6 c = says told (c .before .before .reply4 .given .1) (c .three6 .ensures)
 
 pub tell-spec : {M : Type 1} → statement M
 tell-spec =

@@ -6,13 +6,13 @@ use Rattle.bench_ffi.proofs.calls.tell_check.Statement.{statement}
 use Rattle.bench_ffi.proofs.calls.tell_check.Tie as tie
 
 returns : tie.Need-returns
-returns c = says toldCheck (c .before .before .before .args .w) (c .before .enum-told .given .1) (c .say .ensures)
+returns c = says toldCheck (c .before .enum-told .given .1) (c .three .ensures)
 
 returns-2 : tie.Need-returns-2
-returns-2 c = says toldCheck (c .before .before .before .before .args .w) (c .before .before .reply .given .1) (c .say2 .ensures)
+returns-2 c = says toldCheck (c .before .before .reply .given .1) (c .three2 .ensures)
 
 returns-3 : tie.Need-returns-3
-returns-3 c = says toldCheck (c .before .before .before .before .args .w) (c .before .before .reply2 .given .1) (c .say3 .ensures)
+returns-3 c = says toldCheck (c .before .before .reply2 .given .1) (c .three3 .ensures)
 
 pub tell-check-spec : {M : Type 1} → statement M
 tell-check-spec =

@@ -6,10 +6,10 @@ use Rattle.bench_ffi.proofs.calls.tell_class.Statement.{statement}
 use Rattle.bench_ffi.proofs.calls.tell_class.Tie as tie
 
 returns : tie.Need-returns
-returns c = says toldClass (c .before .before .before .before .args .w) (c .before .before .reply .given .1) (c .say .ensures)
+returns c = says toldClass (c .before .before .reply .given .1) (c .three .ensures)
 
 returns-2 : tie.Need-returns-2
-returns-2 c = says toldClass (c .before .before .before .before .args .w) (c .before .before .reply2 .given .1) (c .say2 .ensures)
+returns-2 c = says toldClass (c .before .before .reply2 .given .1) (c .three2 .ensures)
 
 pub tell-class-spec : {M : Type 1} → statement M
 tell-class-spec =
