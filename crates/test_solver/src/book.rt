@@ -65,6 +65,46 @@ pub fn hold(m: &mut [usize], name: usize, u: usize, v: usize) {
     add(m, HELD, 1);
 }
 
+fn wide(x: u16) -> usize {
+    x as usize
+}
+
+// The j-th of the children, or zero.
+fn listed(children: &[u16], j: usize) -> usize {
+    if j < children.len() {
+        wide(children[j])
+    } else {
+        0
+    }
+}
+
+fn knows(children: &[u16], j: usize, n: usize) -> bool {
+    (children.len() <= j) | (listed(children, j) < n)
+}
+
+// Whether the children, at most four, are nodes.
+pub fn knows_all(m: &[usize], children: &[u16]) -> bool {
+    let n = get(m, NODES);
+    let two = knows(children, 0, n) & knows(children, 1, n);
+    two & knows(children, 2, n) & knows(children, 3, n)
+}
+
+fn adopt(m: &mut [usize], n: usize, children: &[u16], j: usize) {
+    put(m, CHILD | (n << 2) | j, listed(children, j));
+}
+
+pub fn put_functor(m: &mut [usize], symbol: usize, children: &[u16]) {
+    let n = get(m, NODES);
+    put(m, KIND | n, 1);
+    put(m, SYMBOL | n, symbol);
+    put(m, ARITY | n, children.len());
+    adopt(m, n, children, 0);
+    adopt(m, n, children, 1);
+    adopt(m, n, children, 2);
+    adopt(m, n, children, 3);
+    add(m, NODES, 1);
+}
+
 // What stands at the next place.
 fn pull(m: &mut [usize], at: usize) {
     let next = get(m, std::num::wrapping_add_usize(at, 1));

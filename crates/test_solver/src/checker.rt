@@ -38,6 +38,31 @@ pub struct Question {
     pub v: usize,
 }
 
+// An offer, and no goal yet.
+pub fn offering(on: bool, name: usize, left: usize, right: usize) -> Question {
+    Question {
+        on,
+        name,
+        left,
+        right,
+        goal: CLASH,
+        u: left,
+        v: right,
+    }
+}
+
+pub fn asking(x: Question, goal: usize, u: usize, v: usize) -> Question {
+    Question {
+        on: x.on,
+        name: x.name,
+        left: x.left,
+        right: x.right,
+        goal,
+        u,
+        v,
+    }
+}
+
 struct Line {
     rule: usize,
     place: usize,
@@ -178,15 +203,7 @@ pub fn first_broken(m: &mut [usize], x: Question, proof: &[u8], lines: usize) ->
 // The same offer, and as goal what the last line claims.
 pub fn last_claim(m: &[usize], x: Question, lines: usize) -> Question {
     let c = claim_at(m, std::num::wrapping_sub_usize(lines, 1));
-    Question {
-        on: x.on,
-        name: x.name,
-        left: x.left,
-        right: x.right,
-        goal: SAME | (c >> 12),
-        u: start(c),
-        v: c % 64,
-    }
+    asking(x, SAME | (c >> 12), start(c), c % 64)
 }
 
 fn unequal_labels(m: &[usize], u: usize, v: usize) -> bool {

@@ -99,36 +99,14 @@ pub fn refusal(code: usize) -> usize {
     0
 }
 
-// What a proof is asked: nothing offered, or an equation; and what the reply to a call with u and v says it shows.
-fn goal_of(code: usize) -> usize {
+// What the proof that came with a reply has to show of u and v.
+pub fn shown(x: Question, code: usize, u: usize, v: usize) -> Question {
     match code {
-        21 => checker::CLASH,
-        22 => checker::CYCLE,
-        27 => checker::SAME,
-        _ => checker::BELOW,
-    }
-}
-
-pub fn question(on: bool, name: usize, code: usize, u: usize, v: usize) -> Question {
-    if code == ABOVE {
-        return Question {
-            on,
-            name,
-            left: u,
-            right: v,
-            goal: checker::BELOW,
-            u: v,
-            v: u,
-        };
-    }
-    Question {
-        on,
-        name,
-        left: u,
-        right: v,
-        goal: goal_of(code),
-        u,
-        v,
+        21 => checker::asking(x, checker::CLASH, u, v),
+        22 => checker::asking(x, checker::CYCLE, u, v),
+        27 => checker::asking(x, checker::SAME, u, v),
+        28 => checker::asking(x, checker::BELOW, u, v),
+        _ => checker::asking(x, checker::BELOW, v, u),
     }
 }
 

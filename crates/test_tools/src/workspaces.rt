@@ -7,6 +7,7 @@ use store::Terms;
 use test_solver::book;
 use test_solver::checker::Question;
 use test_solver::numbers::get;
+use unifier::Checked;
 use unifier::Workspace;
 
 pub fn variable(w: Workspace) -> Workspace {
@@ -24,15 +25,8 @@ pub fn equated(w: Workspace, name: u16, u: u16, v: u16, proof: &mut [u8]) -> Wor
     o.workspace
 }
 
-// What `check` says of the first bytes of a proof, or 0 where the workspace doesn't come back as it was.
-pub fn check(w: Workspace, m: &[usize], x: Question, proof: &[u8]) -> usize {
-    let o = w.check(replies::offer(x), proof, replies::goal(x));
-    let r = o.reply;
-    let back = o.workspace;
-    if agrees(back, m) {
-        return replies::checked(r);
-    }
-    0
+pub fn check(w: Workspace, x: Question, proof: &[u8]) -> Checked {
+    w.check(replies::offer(x), proof, replies::goal(x))
 }
 
 // Against the book
