@@ -1,19 +1,19 @@
--- `test_files::random::rounds` is safe and ends.
+-- `test_limits::damaged::columns` is safe and ends.
 use borrow.Author.Needs.{needs}
 use mathlib.Core.Path.{_≡_}
 use Prim.Native.Nat.{_-_}
 use lib.ListN.{length}
-use Rattle.test_files.proofs.random.rounds.Statement.{statement}
-use Rattle.test_files.proofs.random.rounds.Tie as tie
+use Rattle.test_limits.proofs.damaged.columns.Statement.{statement}
+use Rattle.test_limits.proofs.damaged.columns.Tie as tie
 
 abbrev Inv-loop : tie.InvT-loop
-Inv-loop tally₀ proof₀ i₀ tally proof i = (length tally ≡ length tally₀) × (length proof ≡ length proof₀)
+Inv-loop m₀ buf₀ d₀ m buf d = (length m ≡ length m₀) × (length buf ≡ length buf₀)
 
 abbrev μ-loop : tie.MeasureT-loop
-μ-loop tally₀ proof₀ i₀ tally proof i = 100 - i
+μ-loop m₀ buf₀ d₀ m buf d = 5376 - d
 
-pub rounds-spec : {M : Type 1} → statement M
-rounds-spec =
+pub columns-spec : {M : Type 1} → statement M
+columns-spec =
     tie.close
     (tie.spec
     Inv-loop

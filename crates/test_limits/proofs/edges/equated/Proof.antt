@@ -1,26 +1,25 @@
--- `test_files::choosing::lengthen` is safe and ends.
+-- `test_limits::edges::equated` is safe and ends.
 use borrow.Author.Needs.{needs}
 use mathlib.Core.Path.{_≡_}
 use Prim.Native.Nat.{_-_}
 use lib.ListN.{length}
-use Rattle.test_files.proofs.choosing.lengthen.Statement.{statement}
-use Rattle.test_files.proofs.choosing.lengthen.Tie as tie
+use Rattle.test_limits.proofs.edges.equated.Statement.{statement}
+use Rattle.test_limits.proofs.edges.equated.Tie as tie
 
 abbrev Inv-loop : tie.InvT-loop
-Inv-loop out₀ at lines node n i₀ out i = length out ≡ length out₀
+Inv-loop buf₀ times now₀ i₀ buf now i = length buf ≡ length buf₀
 
 abbrev μ-loop : tie.MeasureT-loop
-μ-loop out₀ at lines node n i₀ out i = n - i
+μ-loop buf₀ times now₀ i₀ buf now i = times - i
 
-pub lengthen-spec : {M : Type 1} → statement M
-lengthen-spec =
+pub equated-spec : {M : Type 1} → statement M
+equated-spec =
     tie.close
     (tie.spec
     Inv-loop
     μ-loop
     (λ c κs. search needs)
     (λ c. search needs)
-    (λ c κs. search needs)
     (λ c κs. search needs)
     (λ c κs. search needs)
     (λ c. search needs)

@@ -1,19 +1,19 @@
--- `test_files::files::writes` is safe and ends.
+-- `test_limits::damaged::others` is safe and ends.
 use borrow.Author.Needs.{needs}
 use mathlib.Core.Path.{_≡_}
 use Prim.Native.Nat.{_-_}
 use lib.ListN.{length}
-use Rattle.test_files.proofs.files.writes.Statement.{statement}
-use Rattle.test_files.proofs.files.writes.Tie as tie
+use Rattle.test_limits.proofs.damaged.others.Statement.{statement}
+use Rattle.test_limits.proofs.damaged.others.Tie as tie
 
 abbrev Inv-loop : tie.InvT-loop
-Inv-loop out₀ lines k₀ out k = length out ≡ length out₀
+Inv-loop m₀ buf₀ d₀ m buf d = (length m ≡ length m₀) × (length buf ≡ length buf₀)
 
 abbrev μ-loop : tie.MeasureT-loop
-μ-loop out₀ lines k₀ out k = 10 - k
+μ-loop m₀ buf₀ d₀ m buf d = 14 - d
 
-pub writes-spec : {M : Type 1} → statement M
-writes-spec =
+pub others-spec : {M : Type 1} → statement M
+others-spec =
     tie.close
     (tie.spec
     Inv-loop
@@ -22,10 +22,9 @@ writes-spec =
     (λ c. search needs)
     (λ c. search needs)
     (λ c. search needs)
-    (λ c κs. search needs)
-    (λ c. search needs)
     (λ c. search needs)
     (λ c κs. search needs)
+    (λ c. search needs)
     (λ c. search needs)
     (λ c. search needs)
     (λ c. search needs)
