@@ -24,9 +24,17 @@ fn draw(tally: &mut [usize], n: usize) -> usize {
     if 0 < n { (y >> 16) % n } else { 0 }
 }
 
+// Two nodes, and whether their equation is offered.
+fn pick(tally: &mut [usize], on: bool, name: usize) -> Question {
+    let u = draw(tally, 9);
+    let v = draw(tally, 9);
+    checker::offering(on, name, u, v)
+}
+
 // The place of the reply, or 0 where its proof, of n bytes, isn't good.
 fn placed(w: Workspace, x: Question, code: usize, proof: &[u8], n: usize) -> usize {
-    let ok = proved::good(w, x, bytes::part(proof, 0, n));
+    let asked = replies::shown(x, code, x.left, x.right);
+    let ok = proved::good(w, asked, bytes::part(proof, 0, n));
     tools::place_if(
         ok | (code == replies::HELD) | (code == replies::APART),
         code,
@@ -36,32 +44,26 @@ fn placed(w: Workspace, x: Question, code: usize, proof: &[u8], n: usize) -> usi
 // Calls
 
 fn equate(w: Workspace, name: usize, tally: &mut [usize], proof: &mut [u8]) -> Workspace {
-    let u = draw(tally, 9);
-    let v = draw(tally, 9);
-    let o = w.equate(low16(name), low16(u), low16(v), proof);
+    let x = pick(tally, true, name);
+    let o = w.equate(low16(name), low16(x.left), low16(x.right), proof);
     let r = o.reply;
-    let code = replies::changed(r);
-    let x = replies::shown(checker::offering(true, name, u, v), code, u, v);
-    add(
-        tally,
-        placed(w, x, code, proof, replies::changed_bytes(r)),
-        1,
-    );
+    let at = placed(w, x, replies::changed(r), proof, replies::changed_bytes(r));
+    add(tally, at, 1);
     o.workspace
 }
 
 fn compare(w: Workspace, tally: &mut [usize], proof: &mut [u8]) {
-    let u = draw(tally, 9);
-    let v = draw(tally, 9);
-    let o = w.compare(low16(u), low16(v), proof);
+    let x = pick(tally, false, 0);
+    let o = w.compare(low16(x.left), low16(x.right), proof);
     let r = o.reply;
-    let code = replies::compared(r);
-    let x = replies::shown(checker::offering(false, 0, 0, 0), code, u, v);
-    add(
-        tally,
-        placed(w, x, code, proof, replies::compared_bytes(r)),
-        1,
+    let at = placed(
+        w,
+        x,
+        replies::compared(r),
+        proof,
+        replies::compared_bytes(r),
     );
+    add(tally, at, 1);
 }
 
 // Two variables first, then variables and functor nodes of two symbols and two children.
