@@ -529,6 +529,17 @@ fn way_pairs(table: &Table, r: &Reach, u: u8, v: u8, pairs: &mut [(u8, u8); 65])
     }
 }
 
+// The node of u's class at which the way down that leads back to it begins.
+fn top(table: &Table, r: &Reach, u: u8) -> u8 {
+    let mut q = u;
+    loop {
+        q = r.parent[table[q as usize] as usize];
+        if table[q as usize] == table[u as usize] {
+            return q;
+        }
+    }
+}
+
 pub fn explain_below(buf: &mut [u8], t: &Terms, e: &Equations, c: &Closure, r: &Reach, u: u8, v: u8) -> usize {
     let table = &c.table;
     let mut to = [0u16; 64];
@@ -757,7 +768,10 @@ fn explain_fault(buf: &mut [u8], t: &Terms, e: &Equations, c: &Closure, height: 
     }
     let mut r = Reach::new();
     match find_cycle(t, &c.table, height, &mut r) {
-        Some(u) => explain_below(buf, t, e, c, &r, u, u),
+        Some(u) => {
+            let p = top(&c.table, &r, u);
+            explain_below(buf, t, e, c, &r, p, p)
+        }
         None => 0,
     }
 }

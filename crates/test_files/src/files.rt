@@ -2,6 +2,10 @@
 use super::tools;
 use proof_file::ReadReply;
 use proof_file::WriteReply;
+use test_solver::numbers::byte;
+use test_solver::numbers::pair;
+use test_tools::bytes;
+use test_tools::print;
 
 // Bytes of lines, and of the buffer that they are written to.
 const SIZES: [usize; 10] = [0, 9, 9, 8, 8, 8, 65536, 65536, 65536, 65544];
@@ -20,34 +24,34 @@ const COUNTS: [usize; 9] = [1, 0, 1, 1, 1, 8192, 8192, 8192, 8193];
 
 // The file as document 01 has it, byte by byte
 
-fn header_byte(count: usize, i: usize) -> u8 {
+fn header_byte(count: usize, i: usize) -> usize {
     match i {
-        0 => b'P',
-        1 => b'T',
-        2 => b'H',
+        0 => 80,
+        1 => 84,
+        2 => 72,
         3 => 0,
         4 => 1,
-        5 => (count / 256 % 256) as u8,
-        _ => (count % 256) as u8,
+        5 => count / 256,
+        _ => count % 256,
     }
 }
 
 // A file of `size` bytes, and after it the buffer as it was filled.
-fn file_byte(lines: &[u8], size: usize, i: usize) -> u8 {
+fn file_byte(lines: &[u8], size: usize, i: usize) -> usize {
     if size <= i {
         return 165;
     }
     if i < 7 {
         return header_byte(lines.len() / 8, i);
     }
-    tools::get(lines, std::num::wrapping_sub_usize(i, 7))
+    byte(lines, std::num::wrapping_sub_usize(i, 7))
 }
 
 pub fn as_written(lines: &[u8], size: usize, out: &[u8]) -> bool {
     let mut ok = true;
     let mut i: usize = 0;
     while i < out.len() {
-        ok = ok & (out[i] == file_byte(lines, size, i));
+        ok = ok & (byte(out, i) == file_byte(lines, size, i));
         i += 1;
     }
     ok
@@ -55,7 +59,7 @@ pub fn as_written(lines: &[u8], size: usize, out: &[u8]) -> bool {
 
 // Writes into the first `room` bytes, all filled before.
 pub fn write_in(lines: &[u8], out: &mut [u8], room: usize) -> WriteReply {
-    tools::fill(out);
+    bytes::fill(out, 0, out.len(), 165);
     if room <= out.len() {
         return proof_file::write(lines, &mut out[0..room]);
     }
@@ -66,18 +70,18 @@ fn show(r: WriteReply, lines: &[u8], out: &[u8]) {
     match r {
         WriteReply::Wrote(n) => {
             let ok = as_written(lines, n, out);
-            tools::told(ok, b": wrote #, the rest unchanged\n", n as u64);
+            tools::told(ok, b": wrote #, the rest unchanged\n", n);
         }
         WriteReply::Refused(k) => {
             let ok = as_written(lines, 0, out);
-            tools::told(ok, b": refused #, all unchanged\n", k as u64);
+            tools::told(ok, b": refused #, all unchanged\n", k as usize);
         }
     }
 }
 
 fn write_case(lines: &[u8], out: &mut [u8], room: usize) {
-    let n: [u64; 2] = [lines.len() as u64, room as u64];
-    tools::print(b"write # bytes of lines into #", &n, 0);
+    let n: [usize; 2] = [lines.len(), room];
+    print(b"write # bytes of lines into #", &n, 0);
     show(write_in(lines, out, room), lines, out);
 }
 
@@ -85,7 +89,7 @@ fn writes(out: &mut [u8]) {
     let lines = [90u8; 65544];
     let mut k: usize = 0;
     while k < 10 {
-        write_case(tools::part(&lines, 0, SIZES[k]), out, ROOMS[k]);
+        write_case(bytes::part(&lines, 0, SIZES[k]), out, ROOMS[k]);
         k += 1;
     }
 }
@@ -95,16 +99,16 @@ fn writes(out: &mut [u8]) {
 fn put_header(file: &mut [u8], count: usize) {
     let mut i: usize = 0;
     while i < 7 {
-        tools::put(file, i, header_byte(count, i));
+        bytes::set(file, i, bytes::low8(header_byte(count, i)));
         i += 1;
     }
 }
 
 // The refusal of a file, or 0.
-pub fn refusal(file: &[u8]) -> u8 {
+pub fn refusal(file: &[u8]) -> usize {
     match proof_file::read_reply(file) {
         ReadReply::Readable => 0,
-        ReadReply::Refused(k) => k,
+        ReadReply::Refused(k) => k as usize,
     }
 }
 
@@ -113,31 +117,23 @@ fn show_read(file: &[u8]) {
     let lines = proof_file::read(file);
     let k = refusal(file);
     if k == 0 {
-        let ok = tools::equal(lines, tools::part(file, 7, file.len()));
-        tools::told(ok, b": readable, # bytes handed back\n", lines.len() as u64);
+        let ok = bytes::equal(lines, bytes::part(file, 7, file.len()));
+        tools::told(ok, b": readable, # bytes handed back\n", lines.len());
     } else {
-        tools::told(
-            lines.len() == 0,
-            b": refused #, none handed back\n",
-            k as u64,
-        );
+        tools::told(lines.len() == 0, b": refused #, none handed back\n", k);
     }
 }
 
 fn read_case(s: &[u8], length: usize) {
-    let n: [u64; 3] = [
-        tools::pair(s, 3) as u64,
-        tools::pair(s, 5) as u64,
-        length as u64,
-    ];
-    tools::print(tools::part(s, 0, 3), &n, 0);
-    tools::print(b" version # count # in # bytes", &n, 0);
-    show_read(tools::part(s, 0, length));
+    let n: [usize; 3] = [pair(s, 3), pair(s, 5), length];
+    print(bytes::part(s, 0, 3), &n, 0);
+    print(b" version # count # in # bytes", &n, 0);
+    show_read(bytes::part(s, 0, length));
 }
 
 fn spoilt(file: &mut [u8], count: usize, at: usize, x: u8, length: usize) {
     put_header(file, count);
-    tools::put(file, at, x);
+    bytes::set(file, at, x);
     read_case(file, length);
 }
 

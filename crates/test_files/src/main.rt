@@ -7,14 +7,14 @@ mod proved; // what must hold of every proof
 mod random; // random workspaces and their proofs
 mod reading; // line by line
 mod sample; // a workspace that has a proof of every kind
-mod tools; // printing, counting and comparing
+mod tools; // what came otherwise
 
 // The proofs of the sample's calls.
 fn proofs(proof: &mut [u8]) {
     let w = sample::workspace(proof);
-    let n = sample::same(w, proof);
-    damage::all(w, tools::part(proof, 0, n));
-    choosing::lists(w, tools::part(proof, 0, n));
+    let n = sample::prove(w, proof);
+    damage::all(w, test_tools::bytes::part(proof, 0, n));
+    choosing::lists(w, test_tools::bytes::part(proof, 0, n));
     choosing::earlies(w);
     choosing::clash(w, proof);
 }

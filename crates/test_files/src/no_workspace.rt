@@ -1,59 +1,51 @@
 // Refusal 1's small example: node 0 has child 0. Every call refuses it; clear takes it, and what it gives is a workspace without nodes.
-use super::tools;
+use super::sample;
 use proof_shorter::ShorterReply;
-use store::Equations;
-use store::Terms;
-use unifier::ClassReply;
-use unifier::Comparison;
-use unifier::GoalAsked;
-use unifier::OfferAsked;
+use test_solver::book;
+use test_solver::numbers::put;
+use test_tools::print;
+use test_tools::replies;
+use test_tools::workspaces;
 use unifier::Outcome;
-use unifier::Reply;
 use unifier::Workspace;
 
 pub fn own_child() -> Workspace {
-    let mut t = Terms::fresh();
-    t.kind[0] = 1;
-    t.arity[0] = 1;
-    t.count = 1;
-    let e = Equations::fresh();
-    Workspace {
-        terms: t,
-        equations: e,
-    }
+    let mut m = [0usize; 4096];
+    put(&mut m, book::NODES, 1);
+    put(&mut m, book::KIND, 1);
+    put(&mut m, book::ARITY, 1);
+    workspaces::load(&m)
 }
 
 // A refusal's number, or 0
 
-fn changed(o: Outcome) -> u64 {
+fn changed(o: Outcome) -> usize {
     let r = o.reply;
-    match r {
-        Reply::Refused(k) => k as u64,
-        _ => 0,
-    }
+    replies::refusal(replies::changed(r))
 }
 
-fn compare(w: Workspace, proof: &mut [u8]) -> u64 {
+fn compare(w: Workspace, proof: &mut [u8]) -> usize {
     let o = w.compare(0, 0, proof);
     let r = o.reply;
-    match r {
-        Comparison::Refused(k) => k as u64,
-        _ => 0,
-    }
+    replies::refusal(replies::compared(r))
 }
 
-fn class_of(w: Workspace) -> u64 {
+fn class_of(w: Workspace) -> usize {
     let o = w.class_of(0);
     let r = o.reply;
-    match r {
-        ClassReply::Refused(k) => k as u64,
-        ClassReply::Class(_, _) => 0,
-    }
+    replies::refusal(replies::classified(r))
 }
 
-fn chosen(w: Workspace, line: &[u8]) -> u64 {
-    match proof_shorter::shorter_reply(w, OfferAsked::Nothing, line, line, GoalAsked::Same(0, 0)) {
-        ShorterReply::Refused(k) => k as u64,
+fn check(w: Workspace, line: &[u8]) -> usize {
+    let o = workspaces::check(w, sample::same(0, 0), line);
+    let r = o.reply;
+    replies::refusal(replies::checked(r))
+}
+
+fn chosen(w: Workspace, line: &[u8]) -> usize {
+    let x = sample::same(0, 0);
+    match proof_shorter::shorter_reply(w, replies::offer(x), line, line, replies::goal(x)) {
+        ShorterReply::Refused(k) => k as usize,
         _ => 0,
     }
 }
@@ -63,8 +55,8 @@ pub fn changes(w: Workspace, proof: &mut [u8]) {
     let a = changed(w.declare_variable());
     let b = changed(w.declare_functor(1, &none));
     let c = changed(w.equate(10, 0, 0, proof));
-    let n: [u64; 4] = [a, b, c, changed(w.withdraw(10))];
-    tools::print(
+    let n: [usize; 4] = [a, b, c, changed(w.withdraw(10))];
+    print(
         b"node 0 has child 0, declare a variable: refused #\ndeclare a functor node: refused #\nequate: refused #\nwithdraw: refused #\n",
         &n,
         0,
@@ -73,15 +65,14 @@ pub fn changes(w: Workspace, proof: &mut [u8]) {
 
 pub fn questions(w: Workspace, proof: &mut [u8]) {
     let line: [u8; 8] = [3, 0, 0, 0, 0, 0, 0, 0];
-    let check = tools::check(w, OfferAsked::Nothing, GoalAsked::Same(0, 0), &line);
-    let n: [u64; 5] = [
+    let n: [usize; 5] = [
         compare(w, proof),
         class_of(w),
-        check,
+        check(w, &line),
         chosen(w, &line),
         class_of(w.clear()),
     ];
-    tools::print(
+    print(
         b"compare: refused #\nclass: refused #\ncheck: refused #\nshorter of two: refused #\nclear, then class of node 0: refused #\n",
         &n,
         0,

@@ -1,82 +1,83 @@
 // Random workspaces: every proof that their calls give passes, is written, read back, read line by line, and chosen against a longer one.
 use super::proved;
-use super::sample;
-use super::sample::Answer;
 use super::tools;
-use unifier::GoalAsked;
-use unifier::OfferAsked;
+use test_solver::checker;
+use test_solver::checker::Question;
+use test_solver::numbers::add;
+use test_solver::numbers::get;
+use test_solver::numbers::put;
+use test_tools::bytes;
+use test_tools::bytes::low16;
+use test_tools::print;
+use test_tools::replies;
+use test_tools::workspaces;
 use unifier::Workspace;
 
-// Places of the counts are the replies, as in `Answer`; the last has the random state.
-const STATE: usize = 8;
+// Places of the counts are the replies' numbers; the last has the random state.
+const STATE: usize = 39;
 
 // A linear congruential generator's next number, taken below n.
-fn draw(tally: &mut [u64], n: u64) -> u16 {
-    let x = tools::count(tally, STATE);
+fn draw(tally: &mut [usize], n: usize) -> usize {
+    let x = get(tally, STATE);
     let y = ((x % 2147483648) * 1103515245 + 12345) % 2147483648;
-    tools::set(tally, STATE, y);
-    if 0 < n {
-        ((y >> 16) % n % 65536) as u16
-    } else {
-        0
-    }
+    put(tally, STATE, y);
+    if 0 < n { (y >> 16) % n } else { 0 }
 }
 
-fn goal_of(place: usize, u: u16, v: u16) -> GoalAsked {
-    match place {
-        2 => GoalAsked::Clash,
-        3 => GoalAsked::Cycle,
-        4 => GoalAsked::Same(u, v),
-        5 => GoalAsked::Below(u, v),
-        _ => GoalAsked::Below(v, u),
-    }
+// Two nodes, and whether their equation is offered.
+fn pick(tally: &mut [usize], on: bool, name: usize) -> Question {
+    let u = draw(tally, 9);
+    let v = draw(tally, 9);
+    checker::offering(on, name, u, v)
 }
 
-// The place of the reply, or 0 where its proof isn't good.
-fn placed(w: Workspace, offer: OfferAsked, goal: GoalAsked, a: Answer, proof: &[u8]) -> usize {
-    let k = a.place;
-    let ok = proved::good(w, offer, goal, tools::part(proof, 0, a.bytes));
-    tools::place_if(ok | (k == 1) | (k == 7), k)
+// The place of the reply, or 0 where its proof, of n bytes, isn't good.
+fn placed(w: Workspace, x: Question, code: usize, proof: &[u8], n: usize) -> usize {
+    let asked = replies::shown(x, code, x.left, x.right);
+    let ok = proved::good(w, asked, bytes::part(proof, 0, n));
+    tools::place_if(
+        ok | (code == replies::HELD) | (code == replies::APART),
+        code,
+    )
 }
 
 // Calls
 
-fn equate(w: Workspace, name: u16, tally: &mut [u64], proof: &mut [u8]) -> Workspace {
-    let u = draw(tally, 9);
-    let v = draw(tally, 9);
-    let o = w.equate(name, u, v, proof);
+fn equate(w: Workspace, name: usize, tally: &mut [usize], proof: &mut [u8]) -> Workspace {
+    let x = pick(tally, true, name);
+    let o = w.equate(low16(name), low16(x.left), low16(x.right), proof);
     let r = o.reply;
-    let a = sample::equated_as(r);
-    let goal = goal_of(a.place, u, v);
-    tools::add(
-        tally,
-        placed(w, OfferAsked::Equation(name, u, v), goal, a, proof),
-    );
+    let at = placed(w, x, replies::changed(r), proof, replies::changed_bytes(r));
+    add(tally, at, 1);
     o.workspace
 }
 
-fn compare(w: Workspace, tally: &mut [u64], proof: &mut [u8]) {
-    let u = draw(tally, 9);
-    let v = draw(tally, 9);
-    let o = w.compare(u, v, proof);
+fn compare(w: Workspace, tally: &mut [usize], proof: &mut [u8]) {
+    let x = pick(tally, false, 0);
+    let o = w.compare(low16(x.left), low16(x.right), proof);
     let r = o.reply;
-    let a = sample::compared_as(r);
-    let goal = goal_of(a.place, u, v);
-    tools::add(tally, placed(w, OfferAsked::Nothing, goal, a, proof));
+    let at = placed(
+        w,
+        x,
+        replies::compared(r),
+        proof,
+        replies::compared_bytes(r),
+    );
+    add(tally, at, 1);
 }
 
 // Two variables first, then variables and functor nodes of two symbols and two children.
-fn declare(w: Workspace, i: usize, tally: &mut [u64]) -> Workspace {
+fn declare(w: Workspace, i: usize, tally: &mut [usize]) -> Workspace {
     let symbol = draw(tally, 3);
-    let a = draw(tally, i as u64);
-    let children: [u16; 2] = [a, draw(tally, i as u64)];
+    let a = low16(draw(tally, i));
+    let children: [u16; 2] = [a, low16(draw(tally, i))];
     if (i < 2) | (symbol == 0) {
-        return sample::variable(w);
+        return workspaces::variable(w);
     }
-    sample::functor(w, symbol, &children)
+    workspaces::functor(w, low16(symbol), &children)
 }
 
-fn declared(tally: &mut [u64]) -> Workspace {
+fn declared(tally: &mut [usize]) -> Workspace {
     let mut now = Workspace::fresh();
     let mut i: usize = 0;
     while i < 9 {
@@ -88,9 +89,9 @@ fn declared(tally: &mut [u64]) -> Workspace {
 }
 
 // An equation and a comparison in turn.
-fn round(tally: &mut [u64], proof: &mut [u8]) {
+fn round(tally: &mut [usize], proof: &mut [u8]) {
     let mut now = declared(tally);
-    let mut name: u16 = 0;
+    let mut name: usize = 0;
     while name < 8 {
         let next = equate(now, name, tally, proof);
         now = next;
@@ -99,7 +100,7 @@ fn round(tally: &mut [u64], proof: &mut [u8]) {
     }
 }
 
-fn rounds(tally: &mut [u64], proof: &mut [u8]) {
+fn rounds(tally: &mut [usize], proof: &mut [u8]) {
     let mut i: usize = 0;
     while i < 100 {
         round(tally, proof);
@@ -108,10 +109,16 @@ fn rounds(tally: &mut [u64], proof: &mut [u8]) {
 }
 
 pub fn all(proof: &mut [u8]) {
-    let mut tally = [0u64; 9];
+    let mut tally = [0usize; 40];
     rounds(&mut tally, proof);
-    tools::show(
-        b"random workspaces, held: #\nclash: #\ncycle: #\nsame: #\nbelow: #\nabove: #\napart: #\n",
+    print(
+        b"random workspaces, held: #\nclash: #\ncycle: #\n",
         &tally,
+        replies::HELD,
+    );
+    tools::show(
+        b"same: #\nbelow: #\nabove: #\napart: #\n",
+        &tally,
+        replies::SAME,
     );
 }

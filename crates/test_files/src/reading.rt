@@ -1,9 +1,12 @@
 // The line reader, by its struct's step and by the plain one.
 use super::tools;
-use super::tools::get;
-use super::tools::pair;
 use proof_reader::Found;
 use proof_reader::NextLine;
+use test_solver::numbers::byte;
+use test_solver::numbers::pair;
+use test_tools::bytes;
+use test_tools::print;
+use test_tools::say;
 
 // Bytes, and the line that is read.
 const SIZES: [usize; 10] = [0, 7, 8, 8, 9, 15, 16, 16, 16, 16];
@@ -23,9 +26,10 @@ fn as_bytes(s: &[u8], k: usize, f: Found) -> bool {
             second,
             reserved,
         } => {
-            let a = (rule == get(s, o)) & (place == get(s, o | 1)) & (first == pair(s, o | 2));
-            let b = (second == pair(s, o | 4)) & (reserved == pair(s, o | 6));
-            a & b & whole & (f.at == std::num::wrapping_add_usize(k, 1))
+            let a = (rule as usize == byte(s, o)) & (place as usize == byte(s, o | 1));
+            let b = (first as usize == pair(s, o | 2)) & (second as usize == pair(s, o | 4));
+            let c = reserved as usize == pair(s, o | 6);
+            a & b & c & whole & (f.at == std::num::wrapping_add_usize(k, 1))
         }
         NextLine::End => !whole & (f.at == k),
     }
@@ -57,31 +61,27 @@ fn show(f: Found) {
             second,
             reserved,
         } => {
-            let n: [u64; 6] = [
-                rule as u64,
-                place as u64,
-                first as u64,
-                second as u64,
-                reserved as u64,
-                f.at as u64,
+            let n: [usize; 6] = [
+                rule as usize,
+                place as usize,
+                first as usize,
+                second as usize,
+                reserved as usize,
+                f.at,
             ];
-            tools::print(
+            print(
                 b": rule #, place #, first #, second #, reserved #; then line #",
                 &n,
                 0,
             );
         }
-        NextLine::End => tools::told(true, b": the end; still line #", f.at as u64),
+        NextLine::End => say(b": the end; still line #", f.at),
     }
 }
 
 fn step(s: &[u8], k: usize) {
-    let n: [u64; 3] = [
-        proof_reader::count_lines(s) as u64,
-        s.len() as u64,
-        k as u64,
-    ];
-    tools::print(b"# lines in # bytes, line #", &n, 0);
+    let n: [usize; 3] = [proof_reader::count_lines(s), s.len(), k];
+    print(b"# lines in # bytes, line #", &n, 0);
     show(proof_reader::read_line(s, k));
     tools::told(stands(s, k), b"\n", 0);
 }
@@ -90,7 +90,7 @@ pub fn all() {
     let s: [u8; 16] = [1, 2, 3, 4, 5, 6, 7, 8, 255, 0, 255, 255, 0, 255, 255, 255];
     let mut k: usize = 0;
     while k < 10 {
-        step(tools::part(&s, 0, SIZES[k]), LINES[k]);
+        step(bytes::part(&s, 0, SIZES[k]), LINES[k]);
         k += 1;
     }
 }

@@ -1,73 +1,59 @@
-// What the run counts, by place of the log. Refusal k is counted at place 64 + k; the places below 64 are for the random state.
-use super::arrays;
+// What the run counts, by place: refusal k at place k, and most other replies at the place that is their number.
+use test_solver::numbers::add;
+use test_tools::replies;
 
-pub const REFUSED: usize = 64;
+pub const CALLS: usize = 18;
 
-pub const NODES: usize = 84;
+const NODES: usize = 19;
 
-pub const HELD: usize = 85;
+pub const AGAIN: usize = 24;
 
-pub const CLASHES: usize = 86;
+pub const CLEARED: usize = 25;
 
-pub const CYCLES: usize = 87;
+const CLASSES: usize = 26;
 
-pub const GONE: usize = 88;
+pub const SAME: usize = 27;
 
-pub const CLEARED: usize = 89;
+pub const PROOFS: usize = 31;
 
-pub const SAME: usize = 90;
+pub const LINES: usize = 32;
 
-pub const BELOW: usize = 91;
+pub const DAMAGED_PASSED: usize = 34;
 
-pub const ABOVE: usize = 92;
+pub const DAMAGED_REFUSED: usize = 35;
 
-pub const APART: usize = 93;
+pub const OTHER_CLAIMS: usize = 36;
 
-pub const CLASSES: usize = 94;
+const AGREED: usize = 37;
 
-pub const PROOFS: usize = 95;
-
-pub const LINES: usize = 96;
-
-pub const DAMAGED_PASSED: usize = 97;
-
-pub const DAMAGED_REFUSED: usize = 98;
-
-pub const OTHER_CLAIMS: usize = 99;
-
-pub const CALLS: usize = 100;
-
-pub const AGREED: usize = 101;
-
-pub const MISMATCHES: usize = 102;
-
-pub const AGAIN: usize = 103;
-
-pub const PASSED: usize = 104;
-
-pub fn add(log: &mut [u64], at: usize, x: u64) {
-    let c = arrays::get64(log, at);
-    arrays::put64(log, at, std::num::wrapping_add_u64(c, x));
-}
-
-pub fn note(log: &mut [u64], at: usize) {
-    add(log, at, 1);
-}
+const MISMATCHES: usize = 38;
 
 // One comparison: counted as agreed or as a mismatch.
-pub fn expect(log: &mut [u64], ok: bool) {
-    if ok {
-        note(log, AGREED);
-    } else {
-        note(log, MISMATCHES);
-    }
+pub fn expect(m: &mut [usize], ok: bool) {
+    test_tools::expect(m, AGREED, MISMATCHES, ok);
 }
 
-// A reply and the one that the book gives. Refusals are counted by their number.
-pub fn expect_reply(log: &mut [u64], got: u64, wanted: u64) {
-    note(log, CALLS);
-    expect(log, got == wanted);
-    if wanted < 18 {
-        note(log, REFUSED | (wanted as usize));
+fn place(code: usize) -> usize {
+    if code < replies::NODE {
+        return code;
     }
+    if code < test_solver::checker::BROKEN_AT {
+        return NODES;
+    }
+    if code < replies::CLASS {
+        return 12;
+    }
+    CLASSES
+}
+
+// A call, by the reply that it owes.
+pub fn called(m: &mut [usize], code: usize) {
+    add(m, CALLS, 1);
+    add(m, place(code), 1);
+}
+
+// A reply and the one that the book gives.
+pub fn replied(m: &mut [usize], got: usize, wanted: usize) {
+    called(m, wanted);
+    expect(m, got == wanted);
 }

@@ -1,209 +1,103 @@
 // Written proofs: run through `check`, damaged byte by byte, and what still passes held against the other solver.
-// A buffer has the byte 165 wherever no proof stands.
-use super::arrays::draw;
-use super::arrays::draw_index;
-use super::arrays::front8;
-use super::arrays::get8;
-use super::arrays::one_in;
-use super::arrays::put8;
-use super::book;
 use super::counts;
-use super::judge;
-use super::judge::Extra;
-use unifier::GoalAsked;
+use test_solver::checker;
+use test_solver::checker::Question;
+use test_solver::numbers::add;
+use test_solver::numbers::byte;
+use test_tools::bytes;
+use test_tools::bytes::low8;
+use test_tools::draw;
+use test_tools::one_in;
+use test_tools::replies;
+use test_tools::workspaces;
 use unifier::Workspace;
 
-const FILLER: u8 = 165;
-
-pub fn clear(proof: &mut [u8], bytes: usize) {
-    let mut i: usize = 0;
-    while i < bytes {
-        put8(proof, i, 0);
-        i += 1;
-    }
-}
-
-pub fn fill(proof: &mut [u8], bytes: usize) {
-    let mut i: usize = 0;
-    while i < bytes {
-        put8(proof, i, FILLER);
-        i += 1;
-    }
-}
-
-// Whether the bytes from `from` on are as they were.
-pub fn untouched(proof: &[u8], from: usize) -> bool {
-    let mut ok = true;
-    let mut i = from;
-    while i < proof.len() {
-        ok = ok & (proof[i] == FILLER);
-        i += 1;
-    }
-    ok
-}
-
-// One call of `check`, against the other checker. Tells its reply by `code`.
-pub fn ask(
-    w: Workspace,
-    book: &[u16],
-    desk: &mut [u8],
-    log: &mut [u64],
-    proof: &[u8],
-    bytes: usize,
-    x: Extra,
-    goal: GoalAsked,
-) -> u64 {
-    let o = w.check(judge::offer_of(x), front8(proof, bytes), goal);
-    let reply = o.reply;
-    let after = o.workspace;
-    let code = judge::check_code(reply);
-    let owed = judge::owed(book, x, proof, bytes, goal, desk);
-    counts::expect(log, (code == owed) & book::agrees(after, book));
+// One call of `check` with the first n bytes, against the other checker. Tells its reply.
+pub fn ask(w: Workspace, m: &mut [usize], proof: &[u8], n: usize, x: Question) -> usize {
+    let o = workspaces::check(w, x, bytes::part(proof, 0, n));
+    let r = o.reply;
+    let back = o.workspace;
+    let code = replies::checked(r);
+    let owed = checker::owed(m, x, proof, n);
+    counts::expect(m, (code == owed) & workspaces::agrees(back, m));
     code
 }
 
 // A call that has to pass, for a goal that is true of the closure.
-fn passes(
-    w: Workspace,
-    book: &[u16],
-    desk: &mut [u8],
-    log: &mut [u64],
-    proof: &[u8],
-    bytes: usize,
-    x: Extra,
-    goal: GoalAsked,
-) {
-    let code = ask(w, book, desk, log, proof, bytes, x, goal);
-    counts::expect(log, (code == 5000) & judge::is_true(book, desk, goal));
+fn passes(w: Workspace, m: &mut [usize], proof: &[u8], n: usize, x: Question) {
+    let code = ask(w, m, proof, n, x);
+    counts::expect(m, (code == checker::PASSED) & checker::is_true(m, x));
 }
 
-// A changed byte for the place `at`.
-fn other_byte(log: &mut [u64], old: u8) -> u8 {
-    if one_in(log, 2) {
-        let small = (draw(log, 8) % 256) as u8;
+// What the last line claims by itself is true of the closure, and passes, if every line obeys its rule.
+fn last_claim(w: Workspace, m: &mut [usize], proof: &[u8], n: usize, x: Question) {
+    let lines = n / 8;
+    let k = checker::first_broken(m, x, proof, lines);
+    if (k < lines) | (lines == 0) {
+        return;
+    }
+    add(m, counts::OTHER_CLAIMS, 1);
+    passes(w, m, proof, n, checker::last_claim(m, x, lines));
+}
+
+fn damage_told(m: &mut [usize], code: usize, x: Question) {
+    if code == checker::PASSED {
+        add(m, counts::DAMAGED_PASSED, 1);
+        counts::expect(m, checker::is_true(m, x));
+    } else {
+        add(m, counts::DAMAGED_REFUSED, 1);
+    }
+}
+
+// Another byte.
+fn other(m: &mut [usize], old: usize) -> usize {
+    if one_in(m, 2) {
+        let small = draw(m, 8);
         if small == old {
             return old ^ 1;
         }
         return small;
     }
-    let x = (draw(log, 255) % 255) as u8;
-    old ^ (x + 1)
+    old ^ std::num::wrapping_add_usize(draw(m, 255), 1)
 }
 
 // A byte of the proof: of any line, or of one of the last four.
-fn some_place(log: &mut [u64], bytes: usize) -> usize {
-    if one_in(log, 2) {
-        let back = draw_index(log, 32);
-        if back < bytes {
-            return bytes - 1 - back;
+fn some_place(m: &mut [usize], n: usize) -> usize {
+    if one_in(m, 2) {
+        let back = draw(m, 32);
+        if back < n {
+            return n - 1 - back;
         }
         return 0;
     }
-    draw_index(log, bytes)
-}
-
-// What the last line claims by itself is true of the closure, and passes, if every line obeys its rule.
-fn last_claim(
-    w: Workspace,
-    book: &[u16],
-    desk: &mut [u8],
-    log: &mut [u64],
-    proof: &[u8],
-    bytes: usize,
-    x: Extra,
-) {
-    let lines = bytes / 8;
-    let k = judge::first_broken(book, x, proof, desk, lines);
-    if (k < lines) | (lines == 0) {
-        return;
-    }
-    let goal = judge::claimed(desk, judge::before(lines));
-    passes(w, book, desk, log, proof, bytes, x, goal);
-    counts::note(log, counts::OTHER_CLAIMS);
-}
-
-fn damage_told(book: &[u16], desk: &[u8], log: &mut [u64], code: u64, goal: GoalAsked) {
-    if code == 5000 {
-        counts::note(log, counts::DAMAGED_PASSED);
-        counts::expect(log, judge::is_true(book, desk, goal));
-    } else {
-        counts::note(log, counts::DAMAGED_REFUSED);
-    }
-}
-
-fn ask_damaged(
-    w: Workspace,
-    book: &[u16],
-    desk: &mut [u8],
-    log: &mut [u64],
-    proof: &[u8],
-    bytes: usize,
-    x: Extra,
-    goal: GoalAsked,
-) {
-    let code = ask(w, book, desk, log, proof, bytes, x, goal);
-    damage_told(book, desk, log, code, goal);
-    last_claim(w, book, desk, log, proof, bytes, x);
+    draw(m, n)
 }
 
 // One byte changed, asked, and changed back.
-fn damage(
-    w: Workspace,
-    book: &[u16],
-    desk: &mut [u8],
-    log: &mut [u64],
-    proof: &mut [u8],
-    bytes: usize,
-    x: Extra,
-    goal: GoalAsked,
-) {
-    let at = some_place(log, bytes);
-    let old = get8(proof, at);
-    let new = other_byte(log, old);
-    put8(proof, at, new);
-    ask_damaged(w, book, desk, log, proof, bytes, x, goal);
-    put8(proof, at, old);
+fn damage(w: Workspace, m: &mut [usize], proof: &mut [u8], n: usize, x: Question) {
+    let at = some_place(m, n);
+    let old = byte(proof, at);
+    bytes::set(proof, at, low8(other(m, old)));
+    let code = ask(w, m, proof, n, x);
+    damage_told(m, code, x);
+    last_claim(w, m, proof, n, x);
+    bytes::set(proof, at, low8(old));
 }
 
-fn damage_often(
-    w: Workspace,
-    book: &[u16],
-    desk: &mut [u8],
-    log: &mut [u64],
-    proof: &mut [u8],
-    bytes: usize,
-    x: Extra,
-    goal: GoalAsked,
-    times: usize,
-) {
+fn damages(w: Workspace, m: &mut [usize], proof: &mut [u8], n: usize, x: Question, times: usize) {
     let mut i: usize = 0;
     while i < times {
-        damage(w, book, desk, log, proof, bytes, x, goal);
+        damage(w, m, proof, n, x);
         i += 1;
     }
 }
 
-fn count_proof(log: &mut [u64], lines: u16, ok: bool) {
-    counts::expect(log, (0 < lines) & (lines <= 8192) & ok);
-    counts::note(log, counts::PROOFS);
-    counts::add(log, counts::LINES, lines as u64);
-}
-
-// A proof as its call left it: it passes, its goal is true of the closure, and the bytes past it are as they were.
-pub fn audit(
-    w: Workspace,
-    book: &[u16],
-    desk: &mut [u8],
-    log: &mut [u64],
-    proof: &mut [u8],
-    lines: u16,
-    x: Extra,
-    goal: GoalAsked,
-    times: usize,
-) {
-    let bytes = (lines as usize) << 3;
-    count_proof(log, lines, untouched(proof, bytes));
-    passes(w, book, desk, log, proof, bytes, x, goal);
-    damage_often(w, book, desk, log, proof, bytes, x, goal, times);
-    fill(proof, bytes);
+// A proof of n bytes as its call left it: it passes, its goal is true of the closure, and the bytes past it are as they were.
+pub fn audit(w: Workspace, m: &mut [usize], proof: &mut [u8], n: usize, x: Question, times: usize) {
+    counts::expect(m, (0 < n) & (n <= 65536) & bytes::untouched(proof, n));
+    add(m, counts::PROOFS, 1);
+    add(m, counts::LINES, n >> 3);
+    passes(w, m, proof, n, x);
+    damages(w, m, proof, n, x, times);
+    bytes::fill(proof, 0, n, 165);
 }

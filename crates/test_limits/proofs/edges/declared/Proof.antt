@@ -1,3 +1,4 @@
+-- `test_limits::edges::declared` is safe and ends.
 use borrow.Author.Needs.{needs}
 use Prim.Native.Nat.{_-_}
 use Rattle.test_limits.proofs.edges.declared.Statement.{statement}
@@ -15,6 +16,7 @@ declared-spec =
     (tie.spec
     Inv-loop
     μ-loop
+    (λ c κs. search needs)
     (λ c. search needs)
     (λ c κs. search needs)
     (λ c. search needs)

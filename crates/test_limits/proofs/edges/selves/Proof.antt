@@ -1,3 +1,4 @@
+-- `test_limits::edges::selves` is safe and ends.
 use borrow.Author.Needs.{needs}
 use mathlib.Core.Path.{_≡_}
 use Prim.Native.Nat.{_-_}
