@@ -32,13 +32,14 @@ use Rattle.unifier.specs.declared.Outcome.{Outcome}
 use Rattle.unifier.specs.declared.Reply.{Reply}
 use Rattle.unifier.specs.declared.Reply.the-variants.{Node, Held, Gone, Refused, Clash, Cycle}
 use Rattle.demands.specs.History.{Shown, ShownBy, Offerable, OfferDecided, taken, clash, cycle}
+use Rattle.base.proofs.AbsurdLaws.{zero-is-one}
 
 -- only a refused call is answered with a refusal, and that leaves the lists
 accepted-not : (s : State) (c : book.Call) (j : ℕ) → book.refused j ≡ book.accepted s c .reply → ⊥
-accepted-not s (book.declare n) j e = let z : _≡_ {A = ℕ} 0 1 = cc in omega arith
-accepted-not s (book.equate x room) j e = let z : _≡_ {A = ℕ} 0 1 = cc in omega arith
-accepted-not s (book.withdraw n) j e = let z : _≡_ {A = ℕ} 0 1 = cc in omega arith
-accepted-not s book.clear j e = let z : _≡_ {A = ℕ} 0 1 = cc in omega arith
+accepted-not s (book.declare n) j e = zero-is-one cc
+accepted-not s (book.equate x room) j e = zero-is-one cc
+accepted-not s (book.withdraw n) j e = zero-is-one cc
+accepted-not s book.clear j e = zero-is-one cc
 
 pub refused-is : (s : State) (c : book.Call) (j k : ℕ) → book.refused j ≡ book.answer s c k .reply → (k ≡ j) × (book.answer s c k .state ≡ s)
 refused-is s c j k = go (eqb k 0)
@@ -96,25 +97,25 @@ module _ (s : State) (e : Equation) (before after : List ℕ) where
     by-clash (Clash n) h w un = clash un (shown clash-goal n refl p w)
     by-clash (Refused k) h w un = absurd (let q : k ≡ 8 = cc in omega arith)
     by-clash (Cycle n) h w un = absurd (let z : _≡_ {A = ℕ} 9 8 = cc in omega arith)
-    by-clash (Node i) h w un = absurd (let z : _≡_ {A = ℕ} 0 1 = cc in omega arith)
-    by-clash Held h w un = absurd (let z : _≡_ {A = ℕ} 0 1 = cc in omega arith)
-    by-clash Gone h w un = absurd (let z : _≡_ {A = ℕ} 0 1 = cc in omega arith)
+    by-clash (Node i) h w un = zero-is-one cc
+    by-clash Held h w un = zero-is-one cc
+    by-clash Gone h w un = zero-is-one cc
 
     by-cycle : (r : Reply) → said r ≡ book.refused 9 → Written (offered s e) before after r → (Solution (offered s e) → ⊥) → OfferDecided s e before after r
     by-cycle (Cycle n) h w un = cycle un (shown cycle-goal n refl p w)
     by-cycle (Refused k) h w un = absurd (let q : k ≡ 9 = cc in omega arith)
     by-cycle (Clash n) h w un = absurd (let z : _≡_ {A = ℕ} 8 9 = cc in omega arith)
-    by-cycle (Node i) h w un = absurd (let z : _≡_ {A = ℕ} 0 1 = cc in omega arith)
-    by-cycle Held h w un = absurd (let z : _≡_ {A = ℕ} 0 1 = cc in omega arith)
-    by-cycle Gone h w un = absurd (let z : _≡_ {A = ℕ} 0 1 = cc in omega arith)
+    by-cycle (Node i) h w un = zero-is-one cc
+    by-cycle Held h w un = zero-is-one cc
+    by-cycle Gone h w un = zero-is-one cc
 
     by-none : (r : Reply) → said r ≡ book.held → Solution (offered s e) → OfferDecided s e before after r
     by-none Held h t = taken t
-    by-none (Clash n) h t = absurd (let z : _≡_ {A = ℕ} 0 1 = cc in omega arith)
-    by-none (Cycle n) h t = absurd (let z : _≡_ {A = ℕ} 0 1 = cc in omega arith)
-    by-none (Refused k) h t = absurd (let z : _≡_ {A = ℕ} 0 1 = cc in omega arith)
-    by-none (Node i) h t = absurd (let z : _≡_ {A = ℕ} 0 1 = cc in omega arith)
-    by-none Gone h t = absurd (let z : _≡_ {A = ℕ} 0 1 = cc in omega arith)
+    by-none (Clash n) h t = zero-is-one cc
+    by-none (Cycle n) h t = zero-is-one cc
+    by-none (Refused k) h t = zero-is-one cc
+    by-none (Node i) h t = zero-is-one cc
+    by-none Gone h t = zero-is-one cc
 
 -- none of 5, 4, 6, 7 refuses it
 ready : (s : State) (e : Equation) (lent : List ℕ) → Offerable s e lent → book.early s (book.equate e (length lent)) ≡ none

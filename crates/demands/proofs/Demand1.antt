@@ -50,6 +50,7 @@ use Rattle.proof_shorter.specs.declared.ShorterReply.{ShorterReply}
 use Rattle.proof_shorter.specs.declared.ShorterReply.the-variants as shorter
 use Rattle.demands.proofs.Decides.{refused-is}
 use Rattle.demands.specs.Demand1.{Refuses, Away, Unchanged, uncounted, uncountedStance, OneReply, OneValue, Demand1}
+use Rattle.base.proofs.AbsurdLaws.{zero-is-one}
 
 -- ---- each reply is one value
 
@@ -141,9 +142,9 @@ unchanged w ok = record {
     go none u v before after k h = stands u v before after (comparison.Refused k) k refl h
       where
         stands : (u v : ℕ) (before after : List ℕ) (r : Comparison) (k : ℕ) → r ≡ comparison.Refused k → Stands (stateOf w) u v before after r → after ≡ before
-        stands u v before after r k e (stance.same p q) = absurd (let z : _≡_ {A = ℕ} 0 1 = cc in omega arith)
-        stands u v before after r k e (stance.below m p q) = absurd (let z : _≡_ {A = ℕ} 0 1 = cc in omega arith)
-        stands u v before after r k e (stance.above m j p q) = absurd (let z : _≡_ {A = ℕ} 0 1 = cc in omega arith)
+        stands u v before after r k e (stance.same p q) = zero-is-one cc
+        stands u v before after r k e (stance.below m p q) = zero-is-one cc
+        stands u v before after r k e (stance.above m j p q) = zero-is-one cc
         stands u v before after r k e (stance.apart m j i q) = q
     go (some j) u v before after k h = h .1
 
@@ -151,7 +152,7 @@ file-unchanged : (lines before after : List ℕ) (r : WriteReply) (k : ℕ) → 
 file-unchanged lines before after r k = go (writeRefusal (length lines) (length before))
   where
     go : (o : Option ℕ) → files.FileWritten o lines before after r → r ≡ write.Refused k → after ≡ before
-    go none h e = let d = h .0 in absurd (let z : _≡_ {A = ℕ} 0 1 = cc in omega arith)
+    go none h e = let d = h .0 in zero-is-one cc
     go (some j) h e = h .1
 
 -- ---- one reply

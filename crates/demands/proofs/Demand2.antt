@@ -28,6 +28,7 @@ use Rattle.unifier.specs.declared.Comparison.the-variants as says
 use Rattle.unifier.specs.declared.CheckReply.the-variants as check
 use Rattle.demands.specs.Demand2.{PassesCheck, Reports, Demand2}
 use Rattle.demands.proofs.Demand1.{judged-one}
+use Rattle.base.proofs.AbsurdLaws.{zero-is-one}
 
 -- a call that isn't refused
 record Known (s : State) (u v size : ℕ) : Type 0 where
@@ -94,8 +95,8 @@ answered s o g bytes h = go (offerBelow (length (s .nodes)) o && goalBelow (leng
   where
     go : (b c : Bool) → passed ≡ cond b (cond c (answerTo (withOffer s o) g bytes) (refused 6)) (refused 4) → answerTo (withOffer s o) g bytes ≡ passed
     go true true q = sym q
-    go true false q = absurd (let z : _≡_ {A = ℕ} 0 1 = cc in omega arith)
-    go false c q = absurd (let z : _≡_ {A = ℕ} 0 1 = cc in omega arith)
+    go true false q = zero-is-one cc
+    go false c q = zero-is-one cc
 
 pub demand2 : Demand2
 demand2 = record {

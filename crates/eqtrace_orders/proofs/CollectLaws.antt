@@ -16,15 +16,16 @@ use Rattle.eqtrace_orders.specs.declared.Numbers.{Numbers}
 use Rattle.eqtrace_orders.specs.declared.Scanned.{Scanned}
 use Rattle.eqtrace_orders.specs.declared.Scanned.the-variants.{Number, Bad}
 use Rattle.eqtrace_orders.proofs.ScanLaws.{afterWord, split-first, drop-here}
+use Rattle.base.proofs.AbsurdLaws.{zero-is-one}
 
 -- ---- what a scan tells
 
 number-bad : (o : Option ℕ) (e : ℕ) → Bad ≡ numberAt o e → o ≡ none
 number-bad none e q = refl
-number-bad (some v) e q = absurd (let z : _≡_ {A = ℕ} 0 1 = cc in omega arith)
+number-bad (some v) e q = zero-is-one cc
 
 number-found : (o : Option ℕ) (e v n : ℕ) → Number v n ≡ numberAt o e → (o ≡ some v) × (e ≡ n)
-number-found none e v n q = absurd (let z : _≡_ {A = ℕ} 0 1 = cc in omega arith)
+number-found none e v n q = zero-is-one cc
 number-found (some x) e v n q = (cc, cc)
 
 -- ---- numbers so far

@@ -12,6 +12,7 @@ use borrow.Author.Tests.{eq-eqb, ne-eqb}
 use Rattle.eqtrace_orders.specs.Grammar.{split, dropLast, ordersIn}
 use Rattle.eqtrace_orders.specs.Input.{firstLine, EndsAt}
 use Rattle.eqtrace_orders.proofs.ScanLaws.{drop-here, afterPart, split-part}
+use Rattle.base.proofs.AbsurdLaws.{zero-is-one}
 
 -- ---- the end of an order
 
@@ -61,7 +62,7 @@ whole [] e = refl
 whole (x ∷ xs) e = go (eqb x 10) (whole xs) e
   where
     go : (b : Bool) → (drop (length (firstLine xs)) xs ≡ [] → firstLine xs ≡ xs) → drop (length (cond b [] (x ∷ firstLine xs))) (x ∷ xs) ≡ [] → cond b [] (x ∷ firstLine xs) ≡ x ∷ xs
-    go true f e = absurd (let z : _≡_ {A = ℕ} 0 1 = cc in omega arith)
+    go true f e = zero-is-one cc
     go false f e = ap (λ (r : List ℕ). x ∷ r) (f e)
 
 -- parts are never none

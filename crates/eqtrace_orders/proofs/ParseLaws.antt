@@ -16,6 +16,7 @@ use Rattle.eqtrace_orders.specs.declared.Numbers.{Numbers}
 use Rattle.eqtrace_orders.specs.declared.Parsed.{Parsed}
 use Rattle.eqtrace_orders.specs.declared.Command.the-variants as command
 use Rattle.eqtrace_orders.proofs.ScanLaws.{afterWord, split-first}
+use Rattle.base.proofs.AbsurdLaws.{zero-is-one}
 
 -- ---- by the letter
 
@@ -186,9 +187,9 @@ spaced-line (x ∷ (y ∷ l)) n e = ap (λ (z : ℕ). orderOf (x ∷ (z ∷ l)))
 
 -- words that are numbers: there is one
 some-words : (o : Option (List ℕ)) (n : Option ℕ) → (ns : List ℕ) → try n (λ x. try o (λ l. some (x ∷ l))) ≡ some ns → 1 ≤ length ns
-some-words o none ns e = absurd (let z : _≡_ {A = ℕ} 0 1 = cc in omega arith)
-some-words none (some x) ns e = absurd (let z : _≡_ {A = ℕ} 0 1 = cc in omega arith)
-some-words (some l) (some x) [] e = absurd (let z : _≡_ {A = ℕ} 0 1 = cc in omega arith)
+some-words o none ns e = zero-is-one cc
+some-words none (some x) ns e = zero-is-one cc
+some-words (some l) (some x) [] e = zero-is-one cc
 some-words (some l) (some x) (y ∷ ns) e = omega arith
 
 record Found (o : Option (List ℕ)) (r : Numbers) : Type 0 where
@@ -197,7 +198,7 @@ record Found (o : Option (List ℕ)) (r : Numbers) : Type 0 where
   pub holds : Collected ns r
 
 found : (o : Option (List ℕ)) (r : Numbers) → CollectedOr o r → r .ok ≡ true → Found o r
-found none r h k = absurd (let z : _≡_ {A = ℕ} 0 1 = cc in omega arith)
+found none r h k = zero-is-one cc
 found (some ns) r h k = record { ns = ns; is = refl; holds = h }
 
 not-found : (o : Option (List ℕ)) (r : Numbers) → CollectedOr o r → r .ok ≡ false → o ≡ none

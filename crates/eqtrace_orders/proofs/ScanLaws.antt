@@ -12,6 +12,7 @@ use lib.Dec.{eqb, leb}
 use borrow.Author.Tests.{le-leb, lt-leb, leb-true, ne-eqb, not-true}
 use Rattle.eqtrace_orders.specs.Grammar.{isDigit, digitsFrom, numberOf, onFirst, split}
 use Rattle.eqtrace_orders.specs.Scan.{inWord, firstTo, firstWord}
+use Rattle.base.proofs.AbsurdLaws.{zero-is-one}
 
 pub drop-here : (l : List ℕ) (i : ℕ) → i < length l → drop i l ≡ getD l i 0 ∷ drop (i + 1) l
 drop-here l i h = rw add-one (drop-cons l i 0 h)
@@ -34,7 +35,7 @@ word-end (x ∷ xs) e = go (eqb x 32) e
   where
     go : (b : Bool) → not b ≡ false → cond b [] (x ∷ firstWord xs) ≡ []
     go true e = refl
-    go false e = absurd (let z : _≡_ {A = ℕ} 0 1 = cc in omega arith)
+    go false e = zero-is-one cc
 
 word-cons : (x : ℕ) (xs : List ℕ) → not (eqb x 32) ≡ true → firstWord (x ∷ xs) ≡ x ∷ firstWord xs
 word-cons x xs e = rw (not-true (eqb x 32) e)
@@ -85,7 +86,7 @@ digit-range x e = go (leb 48 x) refl e
   where
     go : (b : Bool) → leb 48 x ≡ b → b && leb x 57 ≡ true → (48 ≤ x) × (x ≤ 57)
     go true p q = (leb-true 48 x p, leb-true x 57 q)
-    go false p q = absurd (let z : _≡_ {A = ℕ} 0 1 = cc in omega arith)
+    go false p q = zero-is-one cc
 
 -- ---- numbers
 

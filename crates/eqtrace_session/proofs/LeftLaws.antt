@@ -11,6 +11,7 @@ use Rattle.eqtrace_session.specs.Transcript.{inputLimit, tooLong}
 use Rattle.eqtrace_session.specs.Steps.{leftOf}
 use Rattle.eqtrace_session.specs.declared.Left.{Left}
 use Rattle.eqtrace_session.specs.declared.Left.the-variants as left
+use Rattle.base.proofs.AbsurdLaws.{zero-is-one}
 
 module _ (input : List ℕ) (at i : ℕ) where
   pub left-nothing : length input ≤ at → left.Nothing ≡ leftOf input at i
@@ -38,8 +39,8 @@ module _ (input : List ℕ) (at i : ℕ) where
       go : (x y z : Bool) → leb (length input) at ≡ x → ltb inputLimit i ≡ y → cond x left.Nothing (cond y left.Nothing (cond z left.TooLong left.Order)) ≡ left.Nothing → length input ≤ at
       go true y z p q e = leb-true (length input) at p
       go false true z p q e = omega (arith, ltb-true inputLimit i q)
-      go false false true p q e = absurd (let z : _≡_ {A = ℕ} 0 1 = cc in omega arith)
-      go false false false p q e = absurd (let z : _≡_ {A = ℕ} 0 1 = cc in omega arith)
+      go false false true p q e = zero-is-one cc
+      go false false false p q e = zero-is-one cc
 
   -- where something is left
   pub record Within (z : Bool) : Type 0 where
@@ -53,11 +54,11 @@ module _ (input : List ℕ) (at i : ℕ) where
     where
       go : (x y t z : Bool) → leb (length input) at ≡ x → ltb inputLimit i ≡ y → tooLong input ≡ t
           → cond x left.Nothing (cond y left.Nothing (cond t left.TooLong left.Order)) ≡ cond z left.TooLong left.Order → Within z
-      go true y t true p q r e = absurd (let z : _≡_ {A = ℕ} 0 1 = cc in omega arith)
-      go true y t false p q r e = absurd (let z : _≡_ {A = ℕ} 0 1 = cc in omega arith)
-      go false true t true p q r e = absurd (let z : _≡_ {A = ℕ} 0 1 = cc in omega arith)
-      go false true t false p q r e = absurd (let z : _≡_ {A = ℕ} 0 1 = cc in omega arith)
+      go true y t true p q r e = zero-is-one cc
+      go true y t false p q r e = zero-is-one cc
+      go false true t true p q r e = zero-is-one cc
+      go false true t false p q r e = zero-is-one cc
       go false false true true p q r e = record { inside = leb-false (length input) at p; number = ltb-false inputLimit i q; long = r }
-      go false false true false p q r e = absurd (let z : _≡_ {A = ℕ} 0 1 = cc in omega arith)
-      go false false false true p q r e = absurd (let z : _≡_ {A = ℕ} 0 1 = cc in omega arith)
+      go false false true false p q r e = zero-is-one cc
+      go false false false true p q r e = zero-is-one cc
       go false false false false p q r e = record { inside = leb-false (length input) at p; number = ltb-false inputLimit i q; long = r }

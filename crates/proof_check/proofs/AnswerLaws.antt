@@ -19,6 +19,7 @@ use Rattle.proof_check.specs.declared.Walked.{Walked}
 use Rattle.proof_check.specs.declared.Walked.the-variants.{Ends, Breaks}
 use Rattle.proof_check.specs.Answers.{walked, badLength, answerTo}
 use Rattle.proof_check.proofs.LengthLaws.{whole-length}
+use Rattle.base.proofs.AbsurdLaws.{zero-is-one}
 
 module _ (s : State) (g : Goal) (bs : List ℕ) where
   pub answer-bad : badLength (length bs) ≡ true → refused 11 ≡ answerTo s g bs
@@ -50,7 +51,7 @@ module _ (s : State) (g : Goal) (bs : List ℕ) (e : answerTo s g bs ≡ passed)
   check-passes = go (badLength (length bs)) e
     where
       go : (b : Bool) → cond b (refused 11) (judge s g (linesOf bs)) ≡ passed → Passes s g (linesOf bs)
-      go true q = absurd (let z : _≡_ {A = ℕ} 0 1 = cc in omega arith)
+      go true q = zero-is-one cc
       go false q = q
 
   -- what passes is true of the closure of held and offered

@@ -11,6 +11,7 @@ use lib.ListN.{length, getD, drop, take, length-drop}
 use lib.Seq.{take-all, take-length, drop-append-add, drop-drop, paste}
 use lib.Dec.{eqb, ltb}
 use borrow.Author.Tests.{eqb-true, eqb-false, eq-eqb, ne-eqb, ltb-false, le-ltb, not-true}
+use Rattle.base.proofs.AbsurdLaws.{zero-is-one}
 use Rattle.base.proofs.BoolLaws.{and-left, and-right}
 use Rattle.graph.specs.Limits.{lineLimit}
 use Rattle.proof_lines.specs.Codec.{two}
@@ -25,10 +26,10 @@ use Rattle.proof_file.specs.declared.ReadReply.the-variants as read
 
 pub reply-readable : (o : Option ℕ) → readReply o ≡ read.Readable → o ≡ none
 reply-readable none e = refl
-reply-readable (some k) e = absurd (let z : _≡_ {A = ℕ} 0 1 = cc in omega arith)
+reply-readable (some k) e = zero-is-one cc
 
 pub reply-refused : (o : Option ℕ) (k : ℕ) → readReply o ≡ read.Refused k → (f : List ℕ) → linesOr o f ≡ []
-reply-refused none k e f = absurd (let z : _≡_ {A = ℕ} 0 1 = cc in omega arith)
+reply-refused none k e f = zero-is-one cc
 reply-refused (some j) k e f = refl
 
 -- what a file that isn't refused has
@@ -43,9 +44,9 @@ readable f e = go (ltb (length f) 7) refl (isMarked f) refl (isCounted f) refl e
   where
     go : (a : Bool) → ltb (length f) 7 ≡ a → (b : Bool) → isMarked f ≡ b → (c : Bool) → isCounted f ≡ c
         → cond {A = Option ℕ} a (some 15) (cond b (cond c none (some 15)) (some 14)) ≡ none → Readable f
-    go true p b q c r e = absurd (let z : _≡_ {A = ℕ} 0 1 = cc in omega arith)
-    go false p false q c r e = absurd (let z : _≡_ {A = ℕ} 0 1 = cc in omega arith)
-    go false p true q false r e = absurd (let z : _≡_ {A = ℕ} 0 1 = cc in omega arith)
+    go true p b q c r e = zero-is-one cc
+    go false p false q c r e = zero-is-one cc
+    go false p true q false r e = zero-is-one cc
     go false p true q true r e = record { long = ltb-false (length f) 7 p; marked = q; counted = r }
 
 module _ (f : List ℕ) (e : readReply (fileRefusal f) ≡ read.Readable) where

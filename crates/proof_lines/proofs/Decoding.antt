@@ -9,6 +9,7 @@ use lib.ListN.{length, getD, getElem?, take}
 use lib.Seq.{getD-take, length-take-le}
 use lib.Dec.{eqb}
 use borrow.Author.Tests.{lt-ltb, eqb-true}
+use Rattle.base.proofs.AbsurdLaws.{zero-is-one}
 use Rattle.base.proofs.TabLaws.{tab-at, tab-getD, tab-length, tab-same}
 use Rattle.graph.specs.Lines.{Line}
 use Rattle.proof_lines.specs.declared.Fields.{Fields}
@@ -34,7 +35,7 @@ module _ (l : Line) where
     where
       go : (b : Bool) → eqb (l .reserved) 0 ≡ b → cond b (Whole (fieldsOf l)) (Reserved (fieldsOf l) (l .reserved)) ≡ Whole f → l ≡ lineOf f
       go true q e = let z : l .reserved ≡ 0 = eqb-true (l .reserved) 0 q in let y : fieldsOf l ≡ f = cc in rw (← y, z)
-      go false q e = absurd (let z : _≡_ {A = ℕ} 0 1 = cc in omega arith)
+      go false q e = zero-is-one cc
 
   pub not-whole : ((f : Fields) → decodedOf l ≡ Whole f → ⊥) → l .reserved ≡ 0 → ⊥
   not-whole n z = n (fieldsOf l) (rw z)

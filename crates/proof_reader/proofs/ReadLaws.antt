@@ -9,6 +9,7 @@ use lib.ListN.{length, getD, getElem?, length-append, List·getD-append}
 use lib.Dec.{eqb, ltb}
 use borrow.Author.Tests.{eqb-true, lt-ltb, ltb-true, ltb-false}
 use Rattle.graph.specs.Lines.{Line}
+use Rattle.base.proofs.AbsurdLaws.{zero-is-one}
 use Rattle.base.proofs.ListLaws.{found-lt}
 use Rattle.proof_lines.specs.Codec.{lineAt, linesOf}
 use Rattle.proof_lines.proofs.Decoding.{lines-length, lines-found}
@@ -48,8 +49,8 @@ module _ (bs : List ℕ) (k : ℕ) where
         go : (b t : Bool) → eqb (l .reserved) 0 ≡ t → answer l b t ≡ line.Whole f
             → stepTo f 0 k ≡ stepOver b l k
         go true true q e = let g : f ≡ fields l = cc in let z : l .reserved ≡ 0 = eqb-true _ _ q in rw (g, z)
-        go true false q e = absurd (let z : _≡_ {A = ℕ} 0 1 = cc in omega arith)
-        go false t q e = absurd (let z : _≡_ {A = ℕ} 0 1 = cc in omega arith)
+        go true false q e = zero-is-one cc
+        go false t q e = zero-is-one cc
 
   module _ (f : Fields) (x : ℕ) (e : decoded bs k ≡ line.Reserved f x) where
     pub reserved-inside : k < length bs / 8
@@ -60,17 +61,17 @@ module _ (bs : List ℕ) (k : ℕ) where
       where
         go : (b t : Bool) → answer l b t ≡ line.Reserved f x
             → stepTo f x k ≡ stepOver b l k
-        go true true e = absurd (let z : _≡_ {A = ℕ} 0 1 = cc in omega arith)
+        go true true e = zero-is-one cc
         go true false e = let g : f ≡ fields l = cc in let z : x ≡ l .reserved = cc in rw (g, z)
-        go false t e = absurd (let z : _≡_ {A = ℕ} 0 1 = cc in omega arith)
+        go false t e = zero-is-one cc
 
   pub step-end : decoded bs k ≡ line.End → record { line = next.End; at = k } ≡ stepAt bs k
   step-end e = go (ltb k (length bs / 8)) (eqb (l .reserved) 0) e
     where
       go : (b t : Bool) → answer l b t ≡ line.End
           → record { line = next.End; at = k } ≡ stepOver b l k
-      go true true e = absurd (let z : _≡_ {A = ℕ} 0 1 = cc in omega arith)
-      go true false e = absurd (let z : _≡_ {A = ℕ} 0 1 = cc in omega arith)
+      go true true e = zero-is-one cc
+      go true false e = zero-is-one cc
       go false t e = refl
 
 -- what a step tells of the place
@@ -80,13 +81,13 @@ module _ (bs : List ℕ) (k : ℕ) (f : Found) (e : f ≡ stepAt bs k) where
     where
       go : (b : Bool) → ltb k (length bs / 8) ≡ b → f ≡ stepOver b (lineAt bs k) k → (k < length bs / 8) × (f .at ≡ k + 1)
       go true t e = (ltb-true _ _ t, ap (λ (g : Found). g .at) e)
-      go false t e = let m : next.End ≡ next.Fields r p x y z = ap (λ (g : Found). g .line) (sym e) ∙ q in absurd (let z : _≡_ {A = ℕ} 0 1 = cc in omega arith)
+      go false t e = let m : next.End ≡ next.Fields r p x y z = ap (λ (g : Found). g .line) (sym e) ∙ q in zero-is-one cc
 
   pub end-outside : f .line ≡ next.End → length bs / 8 ≤ k
   end-outside q = go (ltb k (length bs / 8)) refl e
     where
       go : (b : Bool) → ltb k (length bs / 8) ≡ b → f ≡ stepOver b (lineAt bs k) k → length bs / 8 ≤ k
-      go true t e = let m : nextLineOf (lineAt bs k) ≡ next.End = ap (λ (g : Found). g .line) (sym e) ∙ q in absurd (let z : _≡_ {A = ℕ} 0 1 = cc in omega arith)
+      go true t e = let m : nextLineOf (lineAt bs k) ≡ next.End = ap (λ (g : Found). g .line) (sym e) ∙ q in zero-is-one cc
       go false t e = ltb-false _ _ t
 
 -- ---- whole lines, and no byte past them

@@ -8,6 +8,7 @@ use native.Mathlib.Omega.{arith}
 use lib.Dec.{eqb, ltb}
 use borrow.Author.Tests.{eq-eqb, ne-eqb, ltb-true, ltb-false, eqb-true, eqb-false}
 use Rattle.base.specs.Tab.{tab}
+use Rattle.base.proofs.AbsurdLaws.{zero-is-one}
 use Rattle.base.proofs.TabLaws.{tab-at, tab-past}
 use Rattle.graph.specs.Lines.{same, below, try, need, Functor, functorAt, equalLabels, placeAt, byReflexivity, byChild, downTo, downOf}
 use Rattle.store.specs.Views.{kindAt, symbolAt, arityAt, childrenAt, nodeAt, nodesOf}
@@ -57,10 +58,10 @@ module _ (t : Terms) where
           (h, cc)
       go true x false y =
           let f : none ≡ some k = sym (functor-not u (ltb-true u (t .count) x) (eqb-false _ _ y)) ∙ q in
-          absurd (let z : _≡_ {A = ℕ} 0 1 = cc in omega arith)
+          zero-is-one cc
       go false x b y =
           let f : none ≡ some k = sym (functor-past u (ltb-false u (t .count) x)) ∙ q in
-          absurd (let z : _≡_ {A = ℕ} 0 1 = cc in omega arith)
+          zero-is-one cc
 
   -- ---- labels
 
@@ -104,8 +105,8 @@ module _ (t : Terms) where
     labelled = go (functorAt (nodesOf t) u) (functorAt (nodesOf t) v) refl refl
       where
         go : (o p : Option Functor) → functorAt (nodesOf t) u ≡ o → functorAt (nodesOf t) v ≡ p → Equal ≡ labelsCompared o p → Alike
-        go none p x y e = absurd (let z : _≡_ {A = ℕ} 0 1 = cc in omega arith)
-        go (some k) none x y e = absurd (let z : _≡_ {A = ℕ} 0 1 = cc in omega arith)
+        go none p x y e = zero-is-one cc
+        go (some k) none x y e = zero-is-one cc
         go (some k) (some m) x y e =
             let a = functor-row u k x in
             let b = functor-row v m y in

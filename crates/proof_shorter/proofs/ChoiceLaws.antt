@@ -24,6 +24,7 @@ use Rattle.proof_shorter.specs.Choice.{Choice, first, second, refusal, r
 use Rattle.proof_shorter.specs.Contracts.{ChoosesLater, Chooses, Hands}
 use Rattle.proof_shorter.specs.Best.{Best, Picked, Shorter}
 use Rattle.proof_shorter.specs.declared.ShorterReply.{ShorterReply}
+use Rattle.base.proofs.AbsurdLaws.{zero-is-one}
 
 -- ---- the code's steps
 
@@ -51,7 +52,7 @@ module _ (w : Workspace) (o : Option Equation) (g : Goal) (a b : List ℕ) where
   unfolding shorterReply
   passes-first x C e L =
       record {
-        refuses = λ n. let q : passed ≡ refused 1 = ap judged (sym e) ∙ C .refuses n in absurd (let z : _≡_ {A = ℕ} 0 1 = cc in omega arith);
+        refuses = λ n. let q : passed ≡ refused 1 = ap judged (sym e) ∙ C .refuses n in zero-is-one cc;
         replies = λ v. let q : passed ≡ checkReply (stateOf w) o g a = ap judged (sym e) ∙ C .replies v in rw (← q) (L .replies v);
       }
 
@@ -71,9 +72,9 @@ module _ (s : State) (o : Option Equation) (g : Goal) where
   passes-some r p e = go (offerBelow (length (s .nodes)) o && goalBelow (length (s .nodes)) g) (offerNew s o) (rw e at p)
     where
       go : (b c : Bool) → cond b (cond c (refused 11) (refused 6)) (refused 4) ≡ passed → ⊥
-      go true true q = let z : _≡_ {A = ℕ} 0 1 = cc in omega arith
-      go true false q = let z : _≡_ {A = ℕ} 0 1 = cc in omega arith
-      go false c q = let z : _≡_ {A = ℕ} 0 1 = cc in omega arith
+      go true true q = zero-is-one cc
+      go true false q = zero-is-one cc
+      go false c q = zero-is-one cc
 
   module _ (a b : List ℕ) where
     best-of : checkReply s o g a ≡ passed → checkReply s o g b ≡ passed → Best s o g a b (shorterOf s o g a b)

@@ -8,6 +8,7 @@ use native.Mathlib.Nat.{eq-or-lt-of-le}
 use native.Mathlib.Omega.{arith}
 use lib.ListN.{length, getD, set, length-set}
 use lib.Seq.{getD-set-same, getD-set-other}
+use Rattle.base.proofs.AbsurdLaws.{zero-is-one}
 use Rattle.base.proofs.CaseLaws.{same-or-other}
 use Rattle.solve_classes.specs.Table.{class}
 use Rattle.store.specs.Views.{kindAt, arityAt, childAt}
@@ -55,7 +56,7 @@ module _ (g : Terms) (u v : ℕ) (t tr : List ℕ) (n : ℕ) where
       record {
         extends = extends-none (Nodes g) t tr n R;
         clashes = λ q. d;
-        agrees = λ q. absurd (let z : _≡_ {A = ℕ} 0 1 = cc in omega arith);
+        agrees = λ q. zero-is-one cc;
       }
 
   pub pair-agree : {r ts : List ℕ} {m : ℕ} → IsFunctor g u → IsFunctor g v → Alike g u v
@@ -63,7 +64,7 @@ module _ (g : Terms) (u v : ℕ) (t tr : List ℕ) (n : ℕ) where
   pair-agree Fu Fv A P =
       record {
         extends = extends-only _ _ (λ s N t j e h. by-place g t s u v j N Fu Fv A e h) (P .extends);
-        clashes = λ q. absurd (let z : _≡_ {A = ℕ} 0 1 = cc in omega arith);
+        clashes = λ q. zero-is-one cc;
         agrees = λ q e. record { alike = A; places = λ j h. rw (P .extends .same e) at (P .joined j h) };
       }
 
@@ -80,7 +81,7 @@ module _ (g : Terms) (u : ℕ) (t tr : List ℕ) (n : ℕ) (head : List ℕ) (A 
         extends = extends-none (Nodes g) t tr n (A .ready);
         heads = A .heads;
         keeps = λ i h l. refl;
-        clashes = λ q. absurd (let z : _≡_ {A = ℕ} 0 1 = cc in omega arith);
+        clashes = λ q. zero-is-one cc;
         agrees = λ q e Fu. absurd (never (Fu .kind));
       }
 
@@ -105,7 +106,7 @@ module _ (g : Terms) (u : ℕ) (t tr : List ℕ) (n : ℕ) (head : List ℕ) (A 
             (λ e. absurd (omega (arith, ap (λ (j : ℕ). getD head j 0) e)))
             (λ d. as-was i d)
             (same-or-other i (class t u));
-        clashes = λ q. absurd (let z : _≡_ {A = ℕ} 0 1 = cc in omega arith);
+        clashes = λ q. zero-is-one cc;
         agrees = λ q e Fu.
             record {
               found = omega (arith, now-u (class t u) refl, below);
@@ -208,7 +209,7 @@ module _ (g : Terms) (t tr : List ℕ) (n : ℕ) where
         record {
           extends = extends-more (Nodes g) (P .extends) (W .extends);
           clashes = W .clashes;
-          closes = λ e. absurd (let z : _≡_ {A = ℕ} 0 1 = cc in omega arith);
+          closes = λ e. zero-is-one cc;
         }
 
   -- two nodes that agree with one head agree
@@ -216,7 +217,7 @@ module _ (g : Terms) (t tr : List ℕ) (n : ℕ) where
   passed-all {r} {ts} {m} {head} x y P =
       record {
         extends = P .extends;
-        clashes = λ q. absurd (let z : _≡_ {A = ℕ} 0 1 = cc in omega arith);
+        clashes = λ q. zero-is-one cc;
         closes = λ q e u v Fu Fv j.
             let A = P .agrees e u (omega arith) Fu .agree in
             let B : Agree g r v (getD head (class r u) 0) = rw j (P .agrees e v (omega arith) Fv .agree) in
@@ -232,7 +233,7 @@ module _ (g : Terms) (t tr : List ℕ) (n : ℕ) where
       record {
         extends = extends-more (Nodes g) X (W .extends);
         clashes = W .clashes;
-        closes = λ e. absurd (let z : _≡_ {A = ℕ} 0 1 = cc in omega arith);
+        closes = λ e. zero-is-one cc;
       }
 
   pub rounds-closed : {r ts : List ℕ} {m : ℕ} {p us : List ℕ} {k : ℕ} {clash : Bool} {x y : ℕ} → Extends (Nodes g) t tr n r ts m

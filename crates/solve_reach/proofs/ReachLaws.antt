@@ -20,7 +20,7 @@ use Rattle.solve_heights.specs.Nodes.{under}
 use Rattle.solve_heights.specs.Passes.{turned}
 use Rattle.base.proofs.CaseLaws.{same-or-other}
 use Rattle.solve_heights.proofs.CountLaws.{sum-one}
-use Rattle.solve_heights.proofs.PassLaws.{turned-low, turned-back}
+use Rattle.solve_heights.proofs.PassLaws.{turns-none, turns-more, turns-all}
 use Rattle.solve_reach.specs.Reach.{Onward, Ways}
 use Rattle.solve_reach.specs.Search.{Source, Step, StepsDown, Explored, Reached, reachedAt, Reaching, Entered, before, now, Grown, Expanding, Expanded, SearchPassed}
 
@@ -248,32 +248,24 @@ module _ (g : Terms) (t : List ℕ) (u : ℕ) where
 
   pub pass-none : {parent place into level : List ℕ} (down : Bool) (r : ℕ) → Reaching g t parent place into level u r
       → SearchPassed g t u down r 0 parent place into level r
-  pass-none down r R = record { reaching = R; risen = omega arith; closed = λ e k l. absurd (omega arith) }
+  pass-none down r R = record { reaching = R; turns = turns-none }
 
   pub pass-more : (down : Bool) (r i more most : ℕ) {parent place into level a b c next : List ℕ} → SearchPassed g t u down r i parent place into level more
       → Expanded g t level u more (turned (g .count) down i) a b c next most → SearchPassed g t u down r (i + 1) a b c next most
-  pass-more down r i more most {parent} {place} {into} {level} {a} {b} {c} {next} S X =
+  pass-more down r i more most {level = level} {next = next} S X =
       record {
         reaching = X .reaching;
-        risen = omega (arith, S .risen, X .grown .risen);
-        closed = λ e.
-            let x : more ≡ r = omega (arith, S .risen, X .grown .risen, e) in
-            let y : most ≡ more = omega (arith, S .risen, X .grown .risen, e) in
-            let same : next ≡ level = X .grown .same y in
-            below-more (λ k. Explored g t next u (turned (g .count) down k)) i (λ k l. rw same (S .closed x k l)) (X .closed);
+        turns = turns-more most (S .turns) (X .grown .risen) (λ y v e. let same : next ≡ level = X .grown .same y in rw same e) (λ _. X .closed);
       }
 
   -- a pass that reaches no class
   pub pass-done : (down : Bool) (r more : ℕ) {parent place into level : List ℕ} → SearchPassed g t u down r (g .count) parent place into level more → more ≡ r
       → Reached g t parent place into level u
-  pass-done down r more {level = level} S e =
+  pass-done down r more S e =
       record {
         ways = S .reaching .ways;
         steps = S .reaching .steps;
-        closed = λ p U.
-            let n = g .count in
-            let b : turned n down (turned n down p) ≡ p = turned-back n down p (U .known) in
-            (rw b at (S .closed e (turned n down p) (turned-low n down p (U .known)))) U;
+        closed = λ p U. turns-all (S .turns) e p (U .known) U;
         untouched = S .reaching .untouched;
       }
 

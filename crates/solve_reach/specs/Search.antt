@@ -24,7 +24,7 @@ use Rattle.solve_classes.specs.Exact.{Exact}
 use Rattle.base.specs.Sum.{sumTo}
 use Rattle.solve_trace.specs.Nodes.{Nodes, IsFunctor}
 use Rattle.solve_heights.specs.Nodes.{under}
-use Rattle.solve_heights.specs.Passes.{turned}
+use Rattle.solve_heights.specs.Passes.{TurnsTaken}
 use Rattle.solve_reach.specs.Reach.{levelOf, Ways}
 
 abbrev pub Source : List ℕ → List ℕ → ℕ → ℕ → Type 0
@@ -100,8 +100,7 @@ pub record Expanded (g : Terms) (t level : List ℕ) (u r p : ℕ) (parent place
 -- either a class was reached, or every visited node is closed
 pub record SearchPassed (g : Terms) (t : List ℕ) (u : ℕ) (down : Bool) (r i : ℕ) (parent place into level : List ℕ) (more : ℕ) : Type 0 where
   pub reaching : Reaching g t parent place into level u more
-  pub risen : r ≤ more
-  pub closed : more ≡ r → (k : ℕ) → k < i → Explored g t level u (turned (g .count) down k)
+  pub turns : TurnsTaken (Explored g t level u) (g .count) down r i more
 
 -- the answer to "steps down from node p don't count"
 pub record Idle (g : Terms) (t level : List ℕ) (u p : ℕ) (r : Bool) : Type 0 where

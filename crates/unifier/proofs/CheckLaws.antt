@@ -29,6 +29,7 @@ use Rattle.unifier.specs.Views.{stateOf}
 use Rattle.unifier.specs.Check.{goalBelow, offerNew, checkReply}
 use Rattle.unifier.specs.Inner.{Reported, Questioned}
 use Rattle.unifier.specs.declared.Workspace.{Workspace}
+use Rattle.base.proofs.AbsurdLaws.{zero-is-one}
 
 offer-judged : (s : State) (e : Equation) (g : Goal) (bytes : List ℕ) → bothBelow (length (s .nodes)) (e .left) (e .right) ≡ true
     → nameHeld (e .name) (s .equations) ≡ false → goalBelow (length (s .nodes)) g ≡ true → checkReply s (some e) g bytes ≡ answerTo (offered s e) g bytes
@@ -46,7 +47,7 @@ module _ (s : State) (e : Equation) (g : Goal) (n : ℕ) (before after : List �
 
 -- a line that breaks its rule is one of the lines
 broken-within : (s : State) (done : List Claim) (ls : List Line) (k : ℕ) → lineClaims s done ls ≡ broken k → k < length done + length ls
-broken-within s done [] k h = absurd (let z : _≡_ {A = ℕ} 0 1 = cc in omega arith)
+broken-within s done [] k h = zero-is-one cc
 broken-within s done (l ∷ ls) k h = go (claimOf s done l) h (λ c. broken-within s (done ++ (c ∷ [])) ls k)
   where
     go : (o : Option Claim) → onAll (more done o) (λ next. lineClaims s next ls) ≡ broken k
@@ -69,8 +70,8 @@ module _ (s : State) (g : Goal) (bytes : List ℕ) where
       ending empty h = tt
 
       last-not : (cs : List Claim) (k : ℕ) → lastOf cs ≡ breaks k → ⊥
-      last-not [] k q = let z : _≡_ {A = ℕ} 0 1 = cc in omega arith
-      last-not (c ∷ []) k q = let z : _≡_ {A = ℕ} 0 1 = cc in omega arith
+      last-not [] k q = zero-is-one cc
+      last-not (c ∷ []) k q = zero-is-one cc
       last-not (c ∷ (d ∷ ds)) k q = last-not (d ∷ ds) k q
 
       within : (r : LineClaims) → ((k : ℕ) → r ≡ broken k → k < 65536) → (k : ℕ) → ended r ≡ breaks k → k < 65536

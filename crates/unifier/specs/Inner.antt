@@ -3,7 +3,7 @@
 --   Early      the number of the first refusal that the two lists decide, 0 where they decide none
 --   Offering   a solved workspace, and an equation that none of 5, 4, 6 and 7 refuses
 --   Refuted, ClashFound, CycleFound   what the solver found of held and offered equations together
---   Settles    equate's reply; the workspace after it is `placed`
+--   Settles    equate's reply; the workspace after it is `spaceAfter`
 --   Comparing  a solved workspace, two known nodes and a buffer that is long enough
 --   Reported   the line of refusal 12 fits 16 bits
 --   Questioned  refusal 4 or 6 of an offer and a goal, 0 where there is none: then the checker answers
@@ -88,9 +88,9 @@ isHeld (reply.Clash n) = false
 isHeld (reply.Cycle n) = false
 
 -- the equation is put at the end where it is held
-abbrev pub placed : Workspace → Equation → Bool → Workspace
-placed w e true = workspaceOf (w .terms) (withEquation (w .equations) (e .name) (e .left) (e .right))
-placed w e false = w
+abbrev pub spaceAfter : Workspace → Equation → Bool → Workspace
+spaceAfter w e true = workspaceOf (w .terms) (withEquation (w .equations) (e .name) (e .left) (e .right))
+spaceAfter w e false = w
 
 -- there is a place for the equation, and its ends are known nodes
 pub record PlaceFor (w : Workspace) (e : Equation) : Type 0 where
@@ -100,7 +100,7 @@ pub record PlaceFor (w : Workspace) (e : Equation) : Type 0 where
   pub right-known : e .right < w .terms .count
 
 pub record Settles (w : Workspace) (e : Equation) (before after : List ℕ) (r : Reply) : Type 0 where
-  pub equates : Equates w e before after (outcome r (placed w e (isHeld r)))
+  pub equates : Equates w e before after (outcome r (spaceAfter w e (isHeld r)))
   pub place : isHeld r ≡ true → PlaceFor w e
 
 pub record Comparing (w : Workspace) (u v size : ℕ) (table trace : List ℕ) (steps : ℕ) : Type 0 where

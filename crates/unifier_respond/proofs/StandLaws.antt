@@ -13,6 +13,7 @@ use Rattle.store.specs.declared.Terms.{Terms}
 use Rattle.store.specs.declared.Equations.{Equations}
 use Rattle.store.proofs.ViewLaws.{node-in}
 use Rattle.solve_classes.specs.Table.{class, Table}
+use Rattle.solve_classes.proofs.TableLaws.{class-small}
 use Rattle.solve_trace.specs.Nodes.{Formed}
 use Rattle.solve_trace.proofs.NodeLaws.{formed}
 use Rattle.solve_reach.specs.Reach.{levelOf, Searched}
@@ -40,10 +41,10 @@ module _ (t : Terms) (e : Equations) (u v : ℕ) (table trace : List ℕ) (steps
   right-small = omega (arith, k .right-known, k .shape .terms .few)
 
   pub left-class : class table u < 64
-  left-class = omega (arith, a-table .low u left-small, left-small)
+  left-class = class-small a-table u left-small
 
   pub right-class : class table v < 64
-  right-class = omega (arith, a-table .low v right-small, right-small)
+  right-class = class-small a-table v right-small
 
   pub proof-room : {buf : List ℕ} → bufferBytes ≤ length buf → ProofRoom buf trace steps
   proof-room h = record { buffer = h; trace-size = k .going .ready .size; few = omega (arith, k .going .ready .room) }

@@ -89,9 +89,6 @@ arrived {mid = mid} {out} {n = n} {u = u} {q} K R ex ey ez =
 
 -- ---- all the steps
 
-pub class-small : {t : List ℕ} → Table t → (x : ℕ) → x < 64 → class t x < 64
-class-small T x h = omega (arith, T .low x h)
-
 module _ {buf : List ℕ} {n : ℕ} {t to parent place into : List ℕ} {from : ℕ} where
   pub climbing-none : from < 64 → Climbing buf n t to parent place into from 1 from buf n
   climbing-none h =

@@ -14,7 +14,7 @@ use Rattle.solve_reach.specs.Reach.{levelOf, Ways, Edge, Edges}
 use Rattle.write_runs.proofs.Claims.{concludes, kept-kept}
 use Rattle.write_same.specs.Replay.{Prepared}
 use Rattle.write_below.specs.Chain.{walk, WayNoted, OnTheWay, Way, Top, Chain, Ascended, Lowered, Circled}
-use Rattle.write_below.proofs.ChainLaws.{class-small}
+use Rattle.solve_classes.proofs.TableLaws.{class-small}
 
 module _ {t parent into level : List ℕ} {u v : ℕ} (T : Table t) (W : Ways t parent into level u) where
   pub going-none : {xs ys : List ℕ} → length xs ≡ 64 → length ys ≡ 64 → v < 64 → 1 ≤ levelOf t level v → OnTheWay t parent into level v 0 v xs ys

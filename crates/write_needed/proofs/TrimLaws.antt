@@ -15,10 +15,11 @@ use Rattle.solve_trace.specs.Trace.{Reason, start, merge}
 use Rattle.write_needed.specs.Entries.{endAt, AllInRange, Together, AllReasonsHold}
 use Rattle.write_needed.specs.Trim.{PairsTogether, Rebuilt, Rejoins, Among, Trimmed}
 use Rattle.write_needed.proofs.EntryLaws.{entry-ends, trace-stands}
+use Rattle.base.proofs.AbsurdLaws.{zero-is-one}
 
 pub passed : (b : Bool) → not b ≡ false → b ≡ true
 passed true e = refl
-passed false e = absurd (let z : _≡_ {A = ℕ} 0 1 = cc in omega arith)
+passed false e = zero-is-one cc
 
 module _ {left right child trace : List ℕ} {l : ℕ} where
   pub rebuilt-none : {t : List ℕ} → Fresh t → Rebuilt left right child trace l 0 t

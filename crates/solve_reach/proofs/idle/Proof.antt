@@ -7,9 +7,10 @@ use native.Mathlib.Omega.{arith}
 use borrow.Author.Needs.{needs}
 use Rattle.solve_reach.proofs.idle.Statement.{statement}
 use Rattle.solve_reach.proofs.idle.Tie as tie
+use Rattle.base.proofs.AbsurdLaws.{zero-is-one}
 
 returns : tie.Need-returns
-returns c = record { yes = λ q U f. c .if1 .taken (U .kind); counts = λ q. absurd (let z : _≡_ {A = ℕ} 0 1 = cc in omega arith) }
+returns c = record { yes = λ q U f. c .if1 .taken (U .kind); counts = λ q. zero-is-one cc }
 
 returns-2 : tie.Need-returns-2
 returns-2 c =
@@ -17,7 +18,7 @@ returns-2 c =
     let k = w .before .before .before .before in
     let s = k .before .before in
     record {
-      yes = λ q. absurd (let z : _≡_ {A = ℕ} 0 1 = cc in omega arith);
+      yes = λ q. zero-is-one cc;
       counts = λ q. (record { known = s .pre .1 .1; kind = k .if1 .left }, inl (sym (w .before .before .wide .ensures) ∙ c .if2 .taken ∙ w .wide2 .ensures));
     }
 
@@ -37,7 +38,7 @@ returns-3 c =
     = ap (λ (d : ℕ). getD (s .args .level .now) d 0) (sym (w .before .before .wide .ensures)) ∙ omega (arith, c .if3 .taken) in
     record {
       yes = λ q U. ⊎-elim (λ f. e .if2 .left (w .before .before .wide .ensures ∙ f ∙ sym (w .wide2 .ensures))) (λ f. omega (arith, f, z));
-      counts = λ q. absurd (let z : _≡_ {A = ℕ} 0 1 = cc in omega arith);
+      counts = λ q. zero-is-one cc;
     }
 
 returns-4 : tie.Need-returns-4
@@ -47,7 +48,7 @@ returns-4 c =
     let k = w .before .before .before .before in
     let s = k .before .before in
     record {
-      yes = λ q. absurd (let z : _≡_ {A = ℕ} 0 1 = cc in omega arith);
+      yes = λ q. zero-is-one cc;
       counts = λ q. (
         record { known = s .pre .1 .1; kind = k .if1 .left },
         inr (omega (arith, ap (λ (d : ℕ). getD (s .args .level .now) d 0) (w .before .before .wide .ensures), c .if3 .left)),

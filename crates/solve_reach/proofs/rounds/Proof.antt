@@ -29,7 +29,7 @@ returns c = pass-done _ _ _ _ _ _ (c .before .pass .ensures) (omega (arith, c .i
 loop-less : tie.Need-loop-less Inv-loop μ-loop
 loop-less c =
     let P = c .before .pass .ensures in
-    omega (arith, P .risen, reaching-small _ _ _ _ _ _ _ _ (P .reaching))
+    omega (arith, P .turns .risen, reaching-small _ _ _ _ _ _ _ _ (P .reaching))
 
 loop-again : tie.Need-loop-again Inv-loop μ-loop
 loop-again c = c .before .pass .ensures .reaching

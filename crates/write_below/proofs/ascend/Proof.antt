@@ -4,7 +4,8 @@ use borrow.Author.Needs.{needs}
 use Prim.Native.Nat.{_<_}
 use lib.ListN.{getD}
 use Rattle.solve_classes.specs.Table.{class}
-use Rattle.write_below.proofs.ChainLaws.{class-small, ascended}
+use Rattle.solve_classes.proofs.TableLaws.{class-small}
+use Rattle.write_below.proofs.ChainLaws.{ascended}
 use Rattle.write_below.proofs.ascend.Statement.{statement}
 use Rattle.write_below.proofs.ascend.Tie as tie
 

@@ -5,7 +5,8 @@ use Prim.Native.Nat.{_-_, _≤_, _<_}
 use lib.ListN.{getD}
 use Rattle.solve_classes.specs.Table.{class}
 use Rattle.write_below.specs.Chain.{Climbing}
-use Rattle.write_below.proofs.ChainLaws.{class-small, climbing-none, climbing-more, climbed}
+use Rattle.solve_classes.proofs.TableLaws.{class-small}
+use Rattle.write_below.proofs.ChainLaws.{climbing-none, climbing-more, climbed}
 use Rattle.write_below.proofs.climb.Statement.{statement}
 use Rattle.write_below.proofs.climb.Tie as tie
 

@@ -5,7 +5,7 @@ use Prim.Native.Nat.{_-_, _<_}
 use lib.ListN.{getD}
 use Rattle.solve_classes.specs.Table.{class}
 use Rattle.write_below.specs.Chain.{OnTheWay}
-use Rattle.write_below.proofs.ChainLaws.{class-small}
+use Rattle.solve_classes.proofs.TableLaws.{class-small}
 use Rattle.write_below.proofs.WayLaws.{going-none, going-more, way-there}
 use Rattle.write_below.proofs.way.Statement.{statement}
 use Rattle.write_below.proofs.way.Tie as tie

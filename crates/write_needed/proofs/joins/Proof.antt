@@ -8,6 +8,7 @@ use Rattle.write_needed.proofs.EntryLaws.{left-low, right-low}
 use Rattle.write_needed.proofs.TrimLaws.{passed, rebuilt-none, rebuilt-more, rejoins}
 use Rattle.write_needed.proofs.joins.Statement.{statement}
 use Rattle.write_needed.proofs.joins.Tie as tie
+use Rattle.base.proofs.AbsurdLaws.{zero-is-one}
 
 abbrev Inv-loop : tie.InvT-loop
 Inv-loop trace steps left right child u v xs ys n table₀ k₀ table k =
@@ -45,10 +46,10 @@ array-read-cb c =
     right-low r (c .before .second-of .ensures) (c .end-of2 .ensures)
 
 returns : tie.Need-returns Inv-loop μ-loop
-returns c = λ q. absurd (let z : _≡_ {A = ℕ} 0 1 = cc in omega arith)
+returns c = λ q. zero-is-one cc
 
 returns-2 : tie.Need-returns-2 Inv-loop μ-loop
-returns-2 c = λ q. absurd (let z : _≡_ {A = ℕ} 0 1 = cc in omega arith)
+returns-2 c = λ q. zero-is-one cc
 
 unite-requires : tie.Need-unite-requires Inv-loop μ-loop
 unite-requires c κs = c .before .before .before .before .before .before .before .before .before .before .loop .inv .1 .table
@@ -69,7 +70,7 @@ loop-again c =
     )
 
 returns-3 : tie.Need-returns-3 Inv-loop μ-loop
-returns-3 c = λ q. absurd (let z : _≡_ {A = ℕ} 0 1 = cc in omega arith)
+returns-3 c = λ q. zero-is-one cc
 
 returns-4 : tie.Need-returns-4 Inv-loop μ-loop
 returns-4 c = λ q. rejoins (c .before .before .before .loop .inv .1) (omega arith) (c .before .if3 .left) (c .paired .ensures q)

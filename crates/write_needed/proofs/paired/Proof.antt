@@ -7,6 +7,7 @@ use borrow.Author.Count.{below-more}
 use Rattle.write_needed.specs.Trim.{PairsTogether}
 use Rattle.write_needed.proofs.paired.Statement.{statement}
 use Rattle.write_needed.proofs.paired.Tie as tie
+use Rattle.base.proofs.AbsurdLaws.{zero-is-one}
 
 abbrev Inv-loop : tie.InvT-loop
 Inv-loop xs ys n table i₀ i = (i ≤ n) × PairsTogether table xs ys i
@@ -39,7 +40,7 @@ array-read-if1-2 c =
     omega (arith, r .0, r .1)
 
 returns : tie.Need-returns Inv-loop μ-loop
-returns c = λ q. absurd (let z : _≡_ {A = ℕ} 0 1 = cc in omega arith)
+returns c = λ q. zero-is-one cc
 
 loop-again : tie.Need-loop-again Inv-loop μ-loop
 loop-again c =
