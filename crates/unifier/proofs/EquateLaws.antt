@@ -31,7 +31,7 @@ use Rattle.unifier_respond.specs.Shows.{ProofRoom}
 use Rattle.unifier.specs.Views.{workspaceOf, stateOf, Valid}
 use Rattle.unifier.specs.Replies.{outcome}
 use Rattle.unifier.specs.Equate.{Equates}
-use Rattle.unifier.specs.Inner.{Offering, Refuted, isHeld, Settles}
+use Rattle.unifier.specs.Inner.{Offering, Refuted, isSolved, isHeld, Settles}
 use Rattle.unifier.specs.declared.Workspace.{Workspace}
 use Rattle.unifier.specs.declared.Reply.{Reply}
 use Rattle.unifier.specs.declared.Reply.the-variants as says
@@ -116,18 +116,34 @@ module _ (w : Workspace) (e : Equation) (before table trace : List ℕ) (steps :
     decided : Decided (offered (stateOf w) e) after heights out n v
     decided = D (stateOf w) e (verdict.before going e refl (equations-length (w .equations)))
 
-    pub refuted : (f : Finding) → v ≡ f → Refuted w e (length before) after heights out n f
-    refuted f q = record { valid = valid; past = o .past; decided = subst (Decided (offered (stateOf w) e) after heights out n) q decided }
+    pub refuted : Refuted w e (length before) after heights out n v
+    refuted = record { valid = valid; past = o .past; decided = decided }
 
-    offer-held : v ≡ finding.Solved → Equates w e before before (outcome says.Held (workspaceOf (w .terms) (withEquation (w .equations) (e .name) (e .left) (e .right))))
-    offer-held q =
-        let p = puts-equation (w .equations) (e .name) (e .left) (e .right) (full (o .solved .shape .equations)) (equations-few w e before (o .past)) (w .equations .count) (w .equations .count) (w .equations .count) refl refl refl in
-        equate-held w e before valid (o .past) (withEquation (w .equations) (e .name) (e .left) (e .right)) (p .held)
-        (p .shape (w .terms .count) (o .solved .shape .equations) offering-left offering-right (name-new w e before (o .past)))
-        (rw q at (decided .verdict)) (solved-just decided .0 (rw q refl))
+-- ---- the verdict as a reply
 
-    pub settles-held : v ≡ finding.Solved → Settles w e before before says.Held
-    settles-held q = record { equates = offer-held q; place = λ z. record { shape = o .solved .shape; few = equations-few w e before (o .past); left-known = offering-left; right-known = offering-right } }
+solved-is : (v : Finding) → isSolved v ≡ true → v ≡ finding.Solved
+solved-is finding.Solved h = refl
+solved-is (finding.Clash x y) h = true-is-false (sym h)
+solved-is finding.Cycle h = true-is-false (sym h)
+
+module _ (w : Workspace) (e : Equation) (before : List ℕ) {table heights trace : List ℕ} {steps : ℕ} {v : Finding}
+    (f : Refuted w e (length before) table heights trace steps v) where
+  pub refuted-as : (g : Finding) → v ≡ g → Refuted w e (length before) table heights trace steps g
+  refuted-as g q = subst (Refuted w e (length before) table heights trace steps) q f
+
+  pub settles-held : isSolved v ≡ true → Settles w e before before says.Held
+  settles-held h =
+      let q = solved-is v h in
+      let s = f .valid .shape in
+      let few = equations-few w e before (f .past) in
+      let l = known-left w e before (f .past) in
+      let r = known-right w e before (f .past) in
+      let p = puts-equation (w .equations) (e .name) (e .left) (e .right) (full (s .equations)) few (w .equations .count) (w .equations .count) (w .equations .count) refl refl refl in
+      record {
+        equates = equate-held w e before (f .valid) (f .past) (withEquation (w .equations) (e .name) (e .left) (e .right)) (p .held)
+            (p .shape (w .terms .count) (s .equations) l r (name-new w e before (f .past))) (rw q at (f .decided .verdict)) (solved-just (f .decided) .0 (rw q refl));
+        place = λ z. record { shape = s; few = few; left-known = l; right-known = r };
+      }
 
 -- ---- refusals 8 and 9: d is the held equations with e at their end
 

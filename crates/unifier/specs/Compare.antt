@@ -10,6 +10,7 @@ use mathlib.Core.Option.{Option, none, some}
 use Prim.Native.Nat.{ℕ}
 use lib.ListN.{length}
 use lib.Dec.{ltb}
+use Rattle.graph.specs.Limits.{bufferBytes}
 use Rattle.graph.specs.State.{State}
 use Rattle.graph.specs.Closure.{Same, Below}
 use Rattle.graph.specs.Goals.{same-goal, below-goal}
@@ -22,7 +23,7 @@ use Rattle.unifier.specs.declared.Comparison.the-variants as says
 
 -- the first refusal that the two lists and the buffer's length decide
 abbrev pub refusalOf : State → ℕ → ℕ → ℕ → Option ℕ
-refusalOf s u v room = cond (ltb room 65536) (some 5) (cond (ltb u (length (s .nodes)) && ltb v (length (s .nodes))) none (some 4))
+refusalOf s u v room = cond (ltb room bufferBytes) (some 5) (cond (ltb u (length (s .nodes)) && ltb v (length (s .nodes))) none (some 4))
 
 pub data Stands (s : State) (u v : ℕ) (before after : List ℕ) : Comparison → Type 0 where
   same : {n : ℕ} → Same s u v → ProofIn s (same-goal u v) n before after → Stands s u v before after (says.Same n)

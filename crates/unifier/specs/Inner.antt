@@ -79,6 +79,11 @@ pub record CycleFound (w : Workspace) (e : Equation) (room : ℕ) (table heights
 
 -- ---- what equate replies, and does
 
+abbrev pub isSolved : Finding → Bool
+isSolved finding.Solved = true
+isSolved (finding.Clash u v) = false
+isSolved finding.Cycle = false
+
 abbrev pub isHeld : Reply → Bool
 isHeld (reply.Node i) = false
 isHeld reply.Held = true

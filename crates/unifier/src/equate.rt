@@ -6,10 +6,11 @@ ghost use Rattle.graph.specs.Limits.{equationLimit};
 ghost use Rattle.graph.specs.State.{equationOf};
 ghost use Rattle.graph.specs.Book as book;
 ghost use Rattle.store.specs.Views.{terms, equations};
+ghost use Rattle.solve.specs.Decided.{LeftOver};
 ghost use Rattle.unifier.specs.Views.{workspaceOf, stateOf};
 ghost use Rattle.unifier.specs.declared.Workspace.{Workspace};
 ghost use Rattle.unifier.specs.Equate.{Equates};
-ghost use Rattle.unifier.specs.Inner.{Early, ClashFound, CycleFound, isHeld, Settles};
+ghost use Rattle.unifier.specs.Inner.{Early, Refuted, ClashFound, CycleFound, isSolved, isHeld, Settles};
 use super::Outcome;
 use super::Reply;
 use super::Workspace;
@@ -131,6 +132,39 @@ fn cycle(
     Reply::Cycle(lines as u16)
 }
 
+// The verdict as a reply; where the equation is refused, with its proof.
+fn answer(
+    t: Terms,
+    e: Equations,
+    o: SolveResult,
+    trace: &[u16; 64],
+    name: u16,
+    x: u8,
+    y: u8,
+    proof: &mut [u8],
+) -> Reply
+    requires { ⌜ Refuted (workspaceOf t e) (equationOf name x y) (length (now proof)) (o .table) (o .heights .height) (now trace) (o .steps) (o .verdict) ⌝ }
+    requires { ⌜ LeftOver t (o .table) (o .heights .height) (o .heights .left) (o .verdict) ⌝ }
+    ensures { λ r. ⌜ Settles (workspaceOf t e) (equationOf name x y) (now (proof .entry)) (now (proof .exit)) r ⌝ }
+{
+    let verdict = o.verdict;
+    match verdict {
+        Finding::Solved => Reply::Held,
+        Finding::Clash(u, v) => clash(t, e, trace, o.steps, name, x, y, u, v, proof),
+        Finding::Cycle => cycle(t, e, o, trace, name, x, y, proof),
+    }
+}
+
+fn is_solved(verdict: Finding) -> bool
+    ensures { λ r. ⌜ r ≡ isSolved verdict ⌝ }
+{
+    match verdict {
+        Finding::Solved => true,
+        Finding::Clash(_, _) => false,
+        Finding::Cycle => false,
+    }
+}
+
 // The reply, from the arrays of a workspace. They are lent, so that an equation that is held costs no copy.
 fn reply_to<'a>(
     n: usize,
@@ -188,19 +222,12 @@ fn reply_to<'a>(
         y,
     );
     let verdict = o.verdict;
-    match verdict {
-        Finding::Solved => Reply::Held,
-        Finding::Clash(u, v) => {
-            let t = terms_of(n, kind, symbol, arity, child);
-            let e = equations_of(m, names, lefts, rights);
-            clash(t, e, &trace, o.steps, name, x, y, u, v, proof)
-        }
-        Finding::Cycle => {
-            let t = terms_of(n, kind, symbol, arity, child);
-            let e = equations_of(m, names, lefts, rights);
-            cycle(t, e, o, &trace, name, x, y, proof)
-        }
+    if is_solved(verdict) {
+        return Reply::Held;
     }
+    let t = terms_of(n, kind, symbol, arity, child);
+    let e = equations_of(m, names, lefts, rights);
+    answer(t, e, o, &trace, name, x, y, proof)
 }
 
 fn is_held(reply: Reply) -> bool

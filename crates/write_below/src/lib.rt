@@ -4,6 +4,7 @@ use solve_reach::Search;
 ghost use mathlib.Core.Path.{_≡_};
 ghost use Prim.Native.Nat.{ℕ, _+_, _-_, _≤_, _<_};
 ghost use lib.ListN.{length, getD};
+ghost use Rattle.graph.specs.Limits.{nodeLimit, lineLimit, bufferBytes};
 ghost use Rattle.solve_classes.specs.Table.{Table};
 ghost use Rattle.solve_reach.specs.Reach.{levelOf, Ways};
 ghost use Rattle.write_needed.specs.Entries.{AllInRange};
@@ -17,7 +18,7 @@ fn wide(x: u8) -> u16
 
 // From lines `i`, k same x, and `j`, q same x, where `k` is the child of `p` at `place`: p below q, in one line or four.
 fn descend(buf: &mut [u8], n: usize, i: u16, j: u16, k: u8, q: u8, p: u8, place: u8) -> usize
-    requires { ⌜ (n + 4 ≤ 8192) × (65536 ≤ length (now buf)) ⌝ }
+    requires { ⌜ (n + 4 ≤ lineLimit) × (bufferBytes ≤ length (now buf)) ⌝ }
     ensures { λ r. ⌜ Descended (now (buf .entry)) n i j k q p place (now (buf .exit)) r ⌝ }
 {
     proof_lines::put_line(buf, n, 2, place, wide(p), 0);
@@ -31,7 +32,7 @@ fn descend(buf: &mut [u8], n: usize, i: u16, j: u16, k: u8, q: u8, p: u8, place:
 
 // The same where line n - 1 claims q below v: p below v, in one line more.
 fn rise(buf: &mut [u8], n: usize, i: u16, j: u16, k: u8, q: u8, p: u8, place: u8) -> usize
-    requires { ⌜ (1 ≤ n) × ((n + 5 ≤ 8192) × (65536 ≤ length (now buf))) ⌝ }
+    requires { ⌜ (1 ≤ n) × ((n + 5 ≤ lineLimit) × (bufferBytes ≤ length (now buf))) ⌝ }
     ensures { λ r. ⌜ Risen (now (buf .entry)) n i j k q p place (now (buf .exit)) r ⌝ }
 {
     let m = descend(buf, n, i, j, k, q, p, place);
@@ -41,7 +42,7 @@ fn rise(buf: &mut [u8], n: usize, i: u16, j: u16, k: u8, q: u8, p: u8, place: u8
 
 // From lines `i`, u same x, `j`, q same x, and n - 1, q below v: u below v, in three lines or none.
 fn arrive(buf: &mut [u8], n: usize, i: u16, j: u16, u: u8, q: u8) -> usize
-    requires { ⌜ (1 ≤ n) × ((n + 3 ≤ 8192) × (65536 ≤ length (now buf))) ⌝ }
+    requires { ⌜ (1 ≤ n) × ((n + 3 ≤ lineLimit) × (bufferBytes ≤ length (now buf))) ⌝ }
     ensures { λ r. ⌜ Arrived (now (buf .entry)) n i j u q (now (buf .exit)) r ⌝ }
 {
     if u == q {
@@ -65,7 +66,7 @@ fn climb(
     from: u8,
     l: usize,
 ) -> usize
-    requires { ⌜ (1 ≤ n) × ((n + 318 ≤ 8192) × (65536 ≤ length (now buf))) ⌝ }
+    requires { ⌜ (1 ≤ n) × ((n + 318 ≤ lineLimit) × (bufferBytes ≤ length (now buf))) ⌝ }
     requires { ⌜ (u < 64) × ((from < 64) × ((1 ≤ l) × (l ≤ 64))) ⌝ }
     requires { ⌜ Table table ⌝ }
     requires { ⌜ ((d : ℕ) → d < 64 → (getD (now parent) d 0 < 64) × (getD (now into) d 0 < 64)) ⌝ }
@@ -96,28 +97,19 @@ fn climb(
 }
 
 // The way up from v to u's class: how many steps, and for each the child that it leads to and the lower node, which are of one class.
-fn way<'a>(
-    table: [u8; 64],
-    parent: &'a [u8; 64],
-    into: &'a [u8; 64],
-    level: &'a [u8; 64],
-    u: u8,
-    v: u8,
-    xs: &mut [u8; 64],
-    ys: &mut [u8; 64],
-) -> usize
+fn way(table: [u8; 64], search: Search, u: u8, v: u8, xs: &mut [u8; 64], ys: &mut [u8; 64]) -> usize
     requires { ⌜ (length (now xs) ≡ 64) × (length (now ys) ≡ 64) ⌝ }
-    requires { ⌜ (u < 64) × ((v < 64) × (Ways table (now parent) (now into) (now level) u × (1 ≤ levelOf table (now level) v))) ⌝ }
+    requires { ⌜ (u < 64) × ((v < 64) × (Ways table (search .parent) (search .into) (search .level) u × (1 ≤ levelOf table (search .level) v))) ⌝ }
     requires { ⌜ Table table ⌝ }
-    ensures { λ r. ⌜ Way table (now (parent .entry)) (now (into .entry)) (now (level .entry)) u v r (now (xs .exit)) (now (ys .exit)) ⌝ }
+    ensures { λ r. ⌜ Way table (search .parent) (search .into) (search .level) u v r (now (xs .exit)) (now (ys .exit)) ⌝ }
 {
     let mut q = v;
     let mut i: usize = 0;
     loop {
         let d = table[q as usize];
-        xs[i] = into[d as usize];
+        xs[i] = search.into[d as usize];
         ys[i] = q;
-        q = parent[d as usize];
+        q = search.parent[d as usize];
         i += 1;
         if table[q as usize] == table[u as usize] {
             return i;
@@ -138,7 +130,7 @@ fn ascend<'a>(
     v: u8,
     l: usize,
 ) -> usize
-    requires { ⌜ (n + 322 ≤ 8192) × (65536 ≤ length (now buf)) ⌝ }
+    requires { ⌜ (n + 322 ≤ lineLimit) × (bufferBytes ≤ length (now buf)) ⌝ }
     requires { ⌜ (u < 64) × ((v < 64) × ((1 ≤ l) × (l ≤ 64))) ⌝ }
     requires { ⌜ Table table ⌝ }
     requires { ⌜ ((d : ℕ) → d < 64 → (getD (now parent) d 0 < 64) × (getD (now into) d 0 < 64)) ⌝ }
@@ -168,16 +160,7 @@ fn top(table: [u8; 64], search: Search, u: u8) -> u8
 {
     let mut xs = [0u8; 64];
     let mut ys = [0u8; 64];
-    let l = way(
-        table,
-        &search.parent,
-        &search.into,
-        &search.level,
-        u,
-        u,
-        &mut xs,
-        &mut ys,
-    );
+    let l = way(table, search, u, u, &mut xs, &mut ys);
     let last = table[ys[l - 1] as usize];
     search.parent[last as usize]
 }
@@ -197,7 +180,7 @@ pub fn explain_below<'a>(
     u: u8,
     v: u8,
 ) -> usize
-    requires { ⌜ (nodes ≤ 64) × ((steps ≤ 63) × (65536 ≤ length (now buf))) ⌝ }
+    requires { ⌜ (nodes ≤ nodeLimit) × ((steps ≤ 63) × (bufferBytes ≤ length (now buf))) ⌝ }
     requires { ⌜ (length (now trace) ≡ 64) × AllInRange (now trace) steps (now left) (now right) (now child) ⌝ }
     requires { ⌜ (u < 64) × ((v < 64) × (Ways table (search .parent) (search .into) (search .level) u × (1 ≤ levelOf table (search .level) v))) ⌝ }
     requires { ⌜ Table table ⌝ }
@@ -205,16 +188,7 @@ pub fn explain_below<'a>(
 {
     let mut xs = [0u8; 64];
     let mut ys = [0u8; 64];
-    let l = way(
-        table,
-        &search.parent,
-        &search.into,
-        &search.level,
-        u,
-        v,
-        &mut xs,
-        &mut ys,
-    );
+    let l = way(table, search, u, v, &mut xs, &mut ys);
     let last = table[ys[l - 1] as usize];
     let first = search.parent[last as usize];
     let mut to = [0u16; 64];
@@ -263,7 +237,7 @@ pub fn explain_cycle<'a>(
     search: Search,
     u: u8,
 ) -> usize
-    requires { ⌜ (nodes ≤ 64) × ((steps ≤ 63) × (65536 ≤ length (now buf))) ⌝ }
+    requires { ⌜ (nodes ≤ nodeLimit) × ((steps ≤ 63) × (bufferBytes ≤ length (now buf))) ⌝ }
     requires { ⌜ (length (now trace) ≡ 64) × AllInRange (now trace) steps (now left) (now right) (now child) ⌝ }
     requires { ⌜ (u < 64) × (Ways table (search .parent) (search .into) (search .level) u × (1 ≤ levelOf table (search .level) u)) ⌝ }
     requires { ⌜ Table table ⌝ }

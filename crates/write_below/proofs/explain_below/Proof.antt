@@ -7,26 +7,26 @@ use Rattle.write_below.proofs.explain_below.Tie as tie
 
 cast-last : tie.Need-cast-last
 cast-last c =
-    let S = c .before .before .before .before .before .before .before .before in
+    let S = c .before .before .before .before in
     let D = S .pre .1 .1 .0 in
     omega (arith, way-last (S .pre .1 .1 .1) (D .1 .1 .0) (D .1 .0) (c .way .ensures))
 
 array-read-last-2 : tie.Need-array-read-last-2
 array-read-last-2 c =
-    let S = c .before .before .before .before .before .before .before .before in
+    let S = c .before .before .before .before in
     let D = S .pre .1 .1 .0 in
     omega (arith, way-last (S .pre .1 .1 .1) (D .1 .1 .0) (D .1 .0) (c .way .ensures))
 
 element-copy-out-first : tie.Need-element-copy-out-first
 element-copy-out-first c =
-    let S = c .before .before .before .before .before .before .before .before in
+    let S = c .before .before .before .before in
     let D = S .pre .1 .1 .0 in
     omega (arith, way-last-class (S .pre .1 .1 .1) (D .1 .1 .0) (D .1 .0) (c .way .ensures))
 
 prepare-requires : tie.Need-prepare-requires
 prepare-requires c κs =
     let w = c .before .before .before .before .before in
-    let S = w .before .before .before .before .before .before .before .before in
+    let S = w .before .before .before .before in
     let T = S .pre .1 .1 .1 in
     let D = S .pre .1 .1 .0 in
     let Y = w .way .ensures in
@@ -49,7 +49,7 @@ ascend-requires c κs =
     let p = c .before .before .before .before .before .before .before .before in
     let P = p .prepare .ensures in
     let w = p .before .before .before .before .before .before in
-    let S = w .before .before .before .before .before .before .before .before in
+    let S = w .before .before .before .before in
     let D = S .pre .1 .1 .0 in
     let Y = w .way .ensures in
     let W = D .1 .1 .0 in (
@@ -62,7 +62,7 @@ returns c =
     let a = c .before .before in
     let p = a .before .before .before .before .before .before .before .before .before in
     let w = p .before .before .before .before .before .before in
-    let S = w .before .before .before .before .before .before .before .before in
+    let S = w .before .before .before .before in
     let D = S .pre .1 .1 .0 in
     let Y = w .way .ensures in
     lowered (S .pre .1 .1 .1) (D .1 .1 .0) (D .1 .0) Y (S .pre .0 .0) (way-top (S .pre .1 .1 .1) (D .1 .1 .0) (D .1 .0) Y) (p .prepare .ensures) (a .ascend .ensures)

@@ -11,16 +11,16 @@ use Rattle.write_below.proofs.way.Statement.{statement}
 use Rattle.write_below.proofs.way.Tie as tie
 
 abbrev Inv-loop : tie.InvT-loop
-Inv-loop parent into level u v xs₀ ys₀ table q₀ i₀ xs ys q i = OnTheWay table parent into level v i q xs ys
+Inv-loop u v xs₀ ys₀ table search q₀ i₀ xs ys q i = OnTheWay table (search .parent) (search .into) (search .level) v i q xs ys
 
 abbrev μ-loop : tie.MeasureT-loop
-μ-loop parent into level u v xs₀ ys₀ table q₀ i₀ xs ys q i = 64 - i
+μ-loop u v xs₀ ys₀ table search q₀ i₀ xs ys q i = 64 - i
 
 -- q's class, and the node above
 in-range : (a : tie.At-loop Inv-loop μ-loop) → class (a .before .args .t1) (a .loop .q) < 64
 in-range a = class-small (a .before .pre .1 .1) _ (a .loop .inv .small)
 
-up-in-range : (a : tie.At-loop Inv-loop μ-loop) → getD (a .before .args .parent .now) (class (a .before .args .t1) (a .loop .q)) 0 < 64
+up-in-range : (a : tie.At-loop Inv-loop μ-loop) → getD (a .before .args .t2 .parent) (class (a .before .args .t1) (a .loop .q)) 0 < 64
 up-in-range a = a .before .pre .1 .0 .1 .1 .0 .parents _ (in-range a)
 
 loop-holds : tie.Need-loop-holds Inv-loop μ-loop

@@ -1,12 +1,11 @@
--- `equate::reply_to` meets its contract: by its refusals, then by cases on the verdict. In each answer x is the place after the
--- examination, e past refusal 1, y after the early refusals' number, and k past those.
-use mathlib.Core.Path.{refl}
+-- `equate::reply_to` meets its contract: by its refusals, then by the verdict. In each answer x is the place after the examination, e
+-- past refusal 1, y after the early refusals' number, and k past those.
+use mathlib.Core.Path.{refl, sym, _∙_}
 use native.Mathlib.Omega.{arith}
 use borrow.Author.Needs.{needs}
 use borrow.Author.Tests.{not-true, not-false}
 use Rattle.graph.specs.State.{equationOf}
 use Rattle.store.specs.Views.{terms, equations}
-use Rattle.unifier_respond.proofs.FoundLaws.{left-by-peel}
 use Rattle.unifier.specs.Views.{workspaceOf}
 use Rattle.unifier.specs.declared.Reply.the-variants.{Refused}
 use Rattle.unifier.proofs.Laws.{solved-valid, not-valid, equate-no-workspace, equate-early}
@@ -64,43 +63,6 @@ extend-requires c κs =
     let w = (workspaceOf (terms (a .n) (a .kind .now) (a .symbol .now) (a .arity .now) (a .child .now)) (equations (a .m) (a .names .now) (a .lefts .now) (a .rights .now))) in
     extend-fits w (equationOf (a .name) (a .left) (a .right)) (a .proof .now) _ _ _ (record { solved = x .examine .ensures .holds (not-false _ (e .if1 .left)); past = y .early .ensures w refl refl refl .passed (k .if2 .left) })
 
-clash-requires : tie.Need-clash-requires
-clash-requires c κs =
-    let q = c .before .before in
-    let t = q .before in
-    let v = t .before .before in
-    let o = v .before .before in
-    let k = o .before .before .before in
-    let y = k .before in
-    let e = y .before in
-    let x = e .before .before in
-    let a = x .before .before .before .args in
-    let w = (workspaceOf (terms (a .n) (a .kind .now) (a .symbol .now) (a .arity .now) (a .child .now)) (equations (a .m) (a .names .now) (a .lefts .now) (a .rights .now))) in
-    rw (t .terms-of .ensures, q .equations-of .ensures)
-    (record {
-      table = o .extend .result .table;
-      heights = o .extend .result .heights .height;
-      refuted = refuted w (equationOf (a .name) (a .left) (a .right)) (a .proof .now) _ _ _ (record { solved = x .examine .ensures .holds (not-false _ (e .if1 .left)); past = y .early .ensures w refl refl refl .passed (k .if2 .left) }) (o .extend .ensures .1) _ (v .verdict .given .1);
-    })
-
-cycle-requires : tie.Need-cycle-requires
-cycle-requires c κs =
-    let q = c .before .before in
-    let t = q .before in
-    let v = t .before in
-    let o = v .before .before in
-    let k = o .before .before .before in
-    let y = k .before in
-    let e = y .before in
-    let x = e .before .before in
-    let a = x .before .before .before .args in
-    let w = (workspaceOf (terms (a .n) (a .kind .now) (a .symbol .now) (a .arity .now) (a .child .now)) (equations (a .m) (a .names .now) (a .lefts .now) (a .rights .now))) in
-    rw (t .terms-of2 .ensures, q .equations-of2 .ensures)
-    (record {
-      refuted = refuted w (equationOf (a .name) (a .left) (a .right)) (a .proof .now) _ _ _ (record { solved = x .examine .ensures .holds (not-false _ (e .if1 .left)); past = y .early .ensures w refl refl refl .passed (k .if2 .left) }) (o .extend .ensures .1) _ (v .enum-told2 .given .1);
-      peeled = left-by-peel _ (o .extend .ensures .0) (v .enum-told2 .given .1);
-    })
-
 returns-3 : tie.Need-returns-3
 returns-3 c =
     let o = c .before .before in
@@ -110,19 +72,26 @@ returns-3 c =
     let x = e .before .before in
     let a = x .before .before .before .args in
     let w = (workspaceOf (terms (a .n) (a .kind .now) (a .symbol .now) (a .arity .now) (a .child .now)) (equations (a .m) (a .names .now) (a .lefts .now) (a .rights .now))) in
-    settles-held w (equationOf (a .name) (a .left) (a .right)) (a .proof .now) _ _ _ (record { solved = x .examine .ensures .holds (not-false _ (e .if1 .left)); past = y .early .ensures w refl refl refl .passed (k .if2 .left) }) (o .extend .ensures .1) (c .enum-told .given .1)
+    settles-held w (equationOf (a .name) (a .left) (a .right)) (a .proof .now) (refuted w (equationOf (a .name) (a .left) (a .right)) (a .proof .now) _ _ _ (record { solved = x .examine .ensures .holds (not-false _ (e .if1 .left)); past = y .early .ensures w refl refl refl .passed (k .if2 .left) }) (o .extend .ensures .1)) (sym (c .before .is-solved .ensures) ∙ c .if3 .taken)
+
+answer-requires : tie.Need-answer-requires
+answer-requires c κs =
+    let q = c .before .before in
+    let t = q .before in
+    let o = t .before .before .before in
+    let k = o .before .before .before in
+    let y = k .before in
+    let e = y .before in
+    let x = e .before .before in
+    let a = x .before .before .before .args in
+    let w = (workspaceOf (terms (a .n) (a .kind .now) (a .symbol .now) (a .arity .now) (a .child .now)) (equations (a .m) (a .names .now) (a .lefts .now) (a .rights .now))) in
+    rw (t .terms-of .ensures, q .equations-of .ensures) (refuted w (equationOf (a .name) (a .left) (a .right)) (a .proof .now) _ _ _ (record { solved = x .examine .ensures .holds (not-false _ (e .if1 .left)); past = y .early .ensures w refl refl refl .passed (k .if2 .left) }) (o .extend .ensures .1), o .extend .ensures .0)
 
 returns-4 : tie.Need-returns-4
 returns-4 c =
     let l = c .before .before in
     let q = l .before .before .before in
-    rw (q .before .terms-of .ensures, q .equations-of .ensures) at (l .clash .ensures)
-
-returns-5 : tie.Need-returns-5
-returns-5 c =
-    let l = c .before .before in
-    let q = l .before .before .before in
-    rw (q .before .terms-of2 .ensures, q .equations-of2 .ensures) at (l .cycle .ensures)
+    rw (q .before .terms-of .ensures, q .equations-of .ensures) at (l .answer .ensures)
 
 pub reply-to-spec : {M : Type 1} → statement M
 reply-to-spec =
@@ -135,17 +104,10 @@ reply-to-spec =
     cast-x
     cast-y
     extend-requires
-    (λ c. search needs)
-    (λ c. search needs)
     (λ c κs. search needs)
-    (λ c κs. search needs)
-    clash-requires
-    (λ c. search needs)
-    (λ c κs. search needs)
-    (λ c κs. search needs)
-    cycle-requires
     returns-3
+    (λ c κs. search needs)
+    (λ c κs. search needs)
+    answer-requires
     (λ c. search needs)
-    returns-4
-    (λ c. search needs)
-    returns-5)
+    returns-4)
