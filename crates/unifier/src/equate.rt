@@ -20,6 +20,7 @@ use solve::Finding;
 use solve::SolveResult;
 use store::Equations;
 use store::Terms;
+use unifier_examine::examine;
 
 // The first of refusals 5, 4, 6 and 7 that applies, or 0: there are `n` nodes, and the first `m` names are held.
 fn early(
@@ -186,7 +187,7 @@ fn reply_to<'a>(
     ensures { λ w r. ⌜ Settles w (equationOf name left right) (now (proof .entry)) (now (proof .exit)) r ⌝ }
 {
     let mut trace = [0u16; 64];
-    let held = unifier_examine::examine(
+    let held = examine(
         &mut trace,
         n,
         kind,
