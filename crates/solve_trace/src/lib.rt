@@ -16,42 +16,42 @@ pub struct Progress {
 }
 
 // An entry is written in these bases: see specs/Packing.
-const NODE_BASE: usize = 64;
+const NODE_BASE: u16 = 64;
 
-const PLACE_BASE: usize = 4096;
+const PLACE_BASE: u16 = 4096;
 
 // The entry of two nodes and a place, counted from 0.
 pub fn entry(place: usize, u: usize, v: usize) -> u16
     requires { ⌜ (place < childLimit) × ((u < nodeBase) × (v < nodeBase)) ⌝ }
     ensures { λ r. ⌜ r ≡ entryOf u v place ⌝ }
 {
-    ((place + 1) * PLACE_BASE + u * NODE_BASE + v) as u16
+    ((place + 1) * PLACE_BASE as usize + u * NODE_BASE as usize + v) as u16
 }
 
 // Whether an entry is an equation's place.
 pub fn is_equation(e: u16) -> bool
     ensures { λ r. ⌜ Tells (e < placeBase) r ⌝ }
 {
-    (e as usize) < PLACE_BASE
+    e < PLACE_BASE
 }
 
 // An entry's two nodes, and its place, counted from 1.
-pub fn first_of(e: u16) -> usize
+pub fn first_of(e: u16) -> u16
     ensures { λ r. ⌜ r ≡ firstOf e ⌝ }
 {
-    e as usize / NODE_BASE % NODE_BASE
+    e / NODE_BASE % NODE_BASE
 }
 
-pub fn second_of(e: u16) -> usize
+pub fn second_of(e: u16) -> u16
     ensures { λ r. ⌜ r ≡ secondOf e ⌝ }
 {
-    e as usize % NODE_BASE
+    e % NODE_BASE
 }
 
-pub fn place_of(e: u16) -> usize
+pub fn place_of(e: u16) -> u16
     ensures { λ r. ⌜ r ≡ placeOf e ⌝ }
 {
-    e as usize / PLACE_BASE
+    e / PLACE_BASE
 }
 
 // The classes of `x` and `y` become one; where they were two, the trace gets the entry `reason`.

@@ -16,7 +16,7 @@ pub struct Needed {
 }
 
 // The node that an entry joins on one side: an equation's end, or the child of `node` at the entry's place.
-pub fn end_of<'a>(reason: u16, node: usize, ends: &'a [u8; 256], child: &'a [u8; 256]) -> u8
+pub fn end_of<'a>(reason: u16, node: u16, ends: &'a [u8; 256], child: &'a [u8; 256]) -> u8
     requires { ⌜ (reason < placeBase → reason < equationLimit) × ((placeOf reason ≤ childLimit) × (node < nodeLimit)) ⌝ }
     ensures { λ r. ⌜ r ≡ endAt (now (ends .entry)) (now (child .entry)) node reason ⌝ }
 {
@@ -24,7 +24,7 @@ pub fn end_of<'a>(reason: u16, node: usize, ends: &'a [u8; 256], child: &'a [u8;
         return ends[reason as usize];
     }
     let j = solve_trace::place_of(reason) - 1;
-    child[4 * node + j]
+    child[4 * node as usize + j as usize]
 }
 
 // The entry's nodes are of one class, where it has two.
@@ -34,7 +34,7 @@ fn together(table: &[u8; 64], reason: u16) -> bool
     if solve_trace::is_equation(reason) {
         return true;
     }
-    table[solve_trace::first_of(reason)] == table[solve_trace::second_of(reason)]
+    table[solve_trace::first_of(reason) as usize] == table[solve_trace::second_of(reason) as usize]
 }
 
 // Each of the first `n` pairs is of one class.

@@ -30,8 +30,8 @@ fn step(
         proof_lines::put_line(buf, n, 1, 0, name[reason as usize], 0);
         return write_runs::rewire(buf, n + 1, nodes, table, n as u16, a, b, to);
     }
-    let i = to[solve_trace::first_of(reason)];
-    let j = to[solve_trace::second_of(reason)];
+    let i = to[solve_trace::first_of(reason) as usize];
+    let j = to[solve_trace::second_of(reason) as usize];
     let place = solve_trace::place_of(reason) as u8;
     write_runs::link(buf, n, i, j);
     proof_lines::put_line(buf, n + 2, 6, place, n as u16 + 1, 0);
