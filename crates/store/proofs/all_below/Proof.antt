@@ -1,3 +1,4 @@
+-- `store::all_below` meets its contract.
 use mathlib.Core.Path.{_≡_, sym, _∙_}
 use Prim.Native.Nat.{_-_, _≤_}
 use lib.ListN.{length, drop}

@@ -1,3 +1,4 @@
+-- `store_shape::ends_ok` meets its contract.
 use lib.ListN.{length}
 use Rattle.store_shape.specs.Rules.{EachBelow, ZeroFrom}
 use Rattle.base.proofs.TellLaws.{tells-at}

@@ -1,3 +1,4 @@
+-- `store_shape::equations_shaped` meets its contract.
 use Rattle.store_shape.specs.Rules.{Distinct, EndSizes}
 use Rattle.base.proofs.TellLaws.{tells-at}
 use Rattle.store_shape.proofs.ShapeLaws.{tells-equations, equations-many, tells-then, tells-else}

@@ -1,3 +1,4 @@
+-- `store_shape::head_ok` meets its contract.
 use Rattle.store_shape.proofs.RuleLaws.{head-variable, head-functor}
 use Rattle.store_shape.proofs.head_ok.Statement.{statement}
 use Rattle.store_shape.proofs.head_ok.Tie as tie

@@ -1,3 +1,4 @@
+-- `store_shape::names_differ` meets its contract.
 use Rattle.store_shape.proofs.BitLaws.{marks-none}
 use borrow.Author.Needs.{needs}
 use Rattle.store_shape.proofs.names_differ.Statement.{statement}

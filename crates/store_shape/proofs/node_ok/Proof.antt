@@ -1,3 +1,4 @@
+-- `store_shape::node_ok` meets its contract.
 use Rattle.store_shape.proofs.RuleLaws.{node-rule}
 use borrow.Author.Needs.{needs}
 use Rattle.store_shape.proofs.node_ok.Statement.{statement}

@@ -1,3 +1,4 @@
+-- `store_shape::nodes_ok` meets its contract.
 use mathlib.Core.Path.{_≡_}
 use Prim.Native.Nat.{_-_, _≤_}
 use Rattle.store_shape.specs.Rules.{NodeRule}

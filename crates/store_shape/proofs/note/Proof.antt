@@ -1,3 +1,4 @@
+-- `store_shape::note` meets its contract.
 use Rattle.store_shape.proofs.BitLaws.{noted}
 use borrow.Author.Needs.{needs}
 use Rattle.store_shape.proofs.note.Statement.{statement}

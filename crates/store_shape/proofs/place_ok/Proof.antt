@@ -1,3 +1,4 @@
+-- `store_shape::place_ok` meets its contract.
 use Rattle.store_shape.proofs.RuleLaws.{place-used, place-unused}
 use native.Mathlib.Omega.{arith}
 use Rattle.store_shape.proofs.place_ok.Statement.{statement}

@@ -1,3 +1,4 @@
+-- `store_shape::places_ok` meets its contract.
 use mathlib.Core.Path.{_≡_}
 use Prim.Native.Nat.{_+_, _-_, _*_, _≤_}
 use lib.ListN.{getD}

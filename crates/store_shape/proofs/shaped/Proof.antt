@@ -1,3 +1,4 @@
+-- `store_shape::shaped` meets its contract.
 use Rattle.store_shape.proofs.ShapeLaws.{tells-shape, tells-then, tells-else}
 use borrow.Author.Needs.{needs}
 use Rattle.store_shape.proofs.shaped.Statement.{statement}

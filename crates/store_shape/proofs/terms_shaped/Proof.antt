@@ -1,3 +1,4 @@
+-- `store_shape::terms_shaped` meets its contract.
 use lib.ListN.{length}
 use Rattle.base.proofs.TellLaws.{tells-at}
 use Rattle.store_shape.specs.Rules.{Sizes, ZeroFrom}

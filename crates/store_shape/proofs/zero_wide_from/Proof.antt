@@ -1,3 +1,4 @@
+-- `store_shape::zero_wide_from` meets its contract.
 use mathlib.Core.Path.{_≡_}
 use Prim.Native.Nat.{_-_, _≤_}
 use lib.ListN.{length}

@@ -1,3 +1,4 @@
+-- `store::Equations::put` meets its contract.
 use Rattle.store.proofs.PutEquationLaws.{Full, puts-equation}
 use native.Mathlib.Omega.{arith}
 use borrow.Author.Needs.{needs}

@@ -1,3 +1,4 @@
+-- `store::Equations::remove` meets its contract.
 use Rattle.store.proofs.RemoveLaws.{gone, missing}
 use native.Mathlib.Omega.{arith}
 use borrow.Author.Needs.{needs}

@@ -1,3 +1,4 @@
+-- `store::Terms::put_functor` meets its contract.
 use Rattle.store.proofs.BelowLaws.{below-wider}
 use Rattle.store.proofs.PutNodeLaws.{puts-functor}
 use native.Mathlib.Omega.{arith}

@@ -1,3 +1,4 @@
+-- `store::Terms::put_variable` meets its contract.
 use Rattle.store.proofs.PutNodeLaws.{puts-variable}
 use native.Mathlib.Omega.{arith}
 use borrow.Author.Needs.{needs}
