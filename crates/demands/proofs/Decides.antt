@@ -8,6 +8,7 @@ use native.Mathlib.Omega.{arith}
 use lib.ListN.{length}
 use lib.Dec.{eqb, ltb, leb}
 use borrow.Author.Tests.{lt-ltb, le-ltb, lt-leb, ltb-false}
+use Rattle.graph.specs.Limits.{equationLimit, bufferBytes}
 use Rattle.graph.specs.State.{State, Equation, Proper, nameHeld, offered}
 use Rattle.graph.specs.Solution.{Solution}
 use Rattle.graph.specs.Verdict.{Verdict, clashes, cycles, solvable}
@@ -50,7 +51,7 @@ refused-is s c j k = go (eqb k 0)
 
 -- none of 5, 4, 6 refuses it
 record Past (s : State) (e : Equation) (room : ℕ) : Type 0 where
-  pub buffer : 65536 ≤ room
+  pub buffer : bufferBytes ≤ room
   pub known : bothBelow (length (s .nodes)) (e .left) (e .right) ≡ true
   pub new : nameHeld (e .name) (s .equations) ≡ false
 
@@ -58,8 +59,8 @@ module _ (s : State) (e : Equation) (room : ℕ) where
   -- a refusal from 8 on is none of those
   late-past : (k : ℕ) → book.Refusal s (book.equate e room) k → 7 < k → Past s e room
   late-past k r h =
-      let p = go (ltb room 65536) (bothBelow (length (s .nodes)) (e .left) (e .right)) (nameHeld (e .name) (s .equations)) (leb 256 (length (s .equations))) r in
-      record { buffer = ltb-false room 65536 (p .0); known = p .1; new = p .2 }
+      let p = go (ltb room bufferBytes) (bothBelow (length (s .nodes)) (e .left) (e .right)) (nameHeld (e .name) (s .equations)) (leb equationLimit (length (s .equations))) r in
+      record { buffer = ltb-false room bufferBytes (p .0); known = p .1; new = p .2 }
     where
       go : (x y z t : Bool) → book.Else (cond x (some 5) (cond y (cond z (some 6) (cond t (some 7) none)) (some 4))) (book.Late s (book.equate e room)) k
           → (x ≡ false) × (y ≡ true) × (z ≡ false)
@@ -120,7 +121,7 @@ module _ (s : State) (e : Equation) (before after : List ℕ) where
 -- none of 5, 4, 6, 7 refuses it
 ready : (s : State) (e : Equation) (lent : List ℕ) → Offerable s e lent → book.early s (book.equate e (length lent)) ≡ none
 ready s e lent r =
-    rw (le-ltb (length lent) 65536 (r .buffer), lt-ltb _ _ (r .left-known), lt-ltb _ _ (r .right-known), r .new, lt-leb 256 _ (r .few))
+    rw (le-ltb (length lent) bufferBytes (r .buffer), lt-ltb _ _ (r .left-known), lt-ltb _ _ (r .right-known), r .new, lt-leb equationLimit _ (r .few))
 
 ready-past : (s : State) (e : Equation) (lent : List ℕ) → Offerable s e lent → Past s e (length lent)
 ready-past s e lent r =

@@ -8,6 +8,7 @@ use native.Mathlib.Omega.{arith}
 use lib.ListN.{length, take}
 use lib.Dec.{ltb}
 use borrow.Author.Tests.{ltb-false}
+use Rattle.graph.specs.Limits.{bufferBytes}
 use Rattle.graph.specs.State.{State, Equation, withOffer}
 use Rattle.graph.specs.Closure.{Same, Below, symmetry, below-same, below-below}
 use Rattle.graph.specs.Goals.{Goal, same-goal, below-goal, passed, refused}
@@ -32,14 +33,14 @@ use Rattle.base.proofs.AbsurdLaws.{zero-is-one}
 
 -- a call that isn't refused
 record Known (s : State) (u v size : ℕ) : Type 0 where
-  pub room : 65536 ≤ size
+  pub room : bufferBytes ≤ size
   pub left : ltb u (length (s .nodes)) ≡ true
   pub right : ltb v (length (s .nodes)) ≡ true
 
 known : (s : State) (u v room : ℕ) → refusalOf s u v room ≡ none → Known s u v room
 known s u v room h =
-    let p = go (ltb room 65536) (ltb u (length (s .nodes))) (ltb v (length (s .nodes))) h in
-    record { room = ltb-false room 65536 (p .0); left = p .1; right = p .2 }
+    let p = go (ltb room bufferBytes) (ltb u (length (s .nodes))) (ltb v (length (s .nodes))) h in
+    record { room = ltb-false room bufferBytes (p .0); left = p .1; right = p .2 }
   where
     go : (x y z : Bool) → cond {A = Option ℕ} x (some 5) (cond (y && z) none (some 4)) ≡ none → (x ≡ false) × (y ≡ true) × (z ≡ true)
     go true y z q = absurd (let t : _≡_ {A = ℕ} 0 1 = cc in omega arith)

@@ -1,5 +1,5 @@
 -- Lists of calls, and what the code may give back for them: the calls' own contracts and nothing else.
---   LentCall        a call, with all that is handed in beside the workspace; lent bytes as their list
+--   LentCall    a call, with all that is handed in beside the workspace; lent bytes as their list
 --   Result      what it gives back
 --   Ran         one call: the record that the method's `ensures` cites (specs/Tied takes each `ensures` here)
 --   RanAll      a list: each call gets the workspace that the last one returned

@@ -2,8 +2,8 @@
 --   Shown      a proof as a call left it: the lines pass with the offered equation, and each rule-1 name in them is held in the book or offered
 --   Agrees     one call: the reply and the workspace are the book's, and what it left in the lent bytes
 --   AllAgree   each call of the list, beside the book's answers
---   Offerable      an offered equation that none of 5, 4, 6, 7 refuses
---   OfferDecided    its fate: taken with a solution, refused with a proof without one
+--   Offerable  an offered equation that none of 5, 4, 6, 7 refuses
+--   OfferDecided   its fate: taken with a solution, refused with a proof without one
 --   Faithful   the claim about one list; Demand3 the claim about all
 -- The book's run is unique: `runs-unique` of graph/proofs/BookLaws.
 use mathlib.Core.Path.{_≡_}
@@ -12,6 +12,7 @@ use mathlib.Core.List.{List, [], _∷_, map}
 use mathlib.Core.Option.{some}
 use Prim.Native.Nat.{ℕ, _*_, _<_, _≤_}
 use lib.ListN.{length, take}
+use Rattle.graph.specs.Limits.{equationLimit, bufferBytes}
 use Rattle.graph.specs.State.{Equation, State, emptyState, nameHeld, IsNode, offered}
 use Rattle.graph.specs.Solution.{Solution}
 use Rattle.graph.specs.Goals.{Goal, clash-goal, cycle-goal, passed, Cites}
@@ -71,8 +72,8 @@ pub record Offerable (s : State) (e : Equation) (lent : List ℕ) : Type 0 where
   pub left-known : IsNode s (e .left)
   pub right-known : IsNode s (e .right)
   pub new : nameHeld (e .name) (s .equations) ≡ false
-  pub few : length (s .equations) < 256
-  pub buffer : 65536 ≤ length lent
+  pub few : length (s .equations) < equationLimit
+  pub buffer : bufferBytes ≤ length lent
 
 pub data OfferDecided (s : State) (e : Equation) (before after : List ℕ) : Reply → Type 0 where
   taken : Solution (offered s e) → OfferDecided s e before after Held

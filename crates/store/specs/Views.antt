@@ -1,7 +1,7 @@
 -- The arrays read as the lists of a state, and back.
 --   terms, equations          a value of the struct by its fields: how a contract over lent arrays names one
 --   nodesOf, equationsOf      the lists that the arrays hold
---   stateFrom                   both, as a state
+--   stateFrom                 both, as a state
 --   packTerms, packEquations  the arrays that hold given lists, with zero in every unused place
 --   freshTerms, freshEquations  no nodes, no equations
 -- On well-shaped values (specs/Shape) the two directions are inverse: proofs/PackLaws.
