@@ -1,10 +1,10 @@
 -- Demand 3: the claim about every list of calls from the fresh workspace.
---   Shown      a proof as a call left it: the lines pass with the offered equation, and each rule-1 name in them is held in the book or offered
---   Agrees     one call: the reply and the workspace are the book's, and what it left in the lent bytes
---   AllAgree   each call of the list, beside the book's answers
---   Offerable  an offered equation that none of 5, 4, 6, 7 refuses
+--   Shown          a proof as a call left it: the lines pass with the offered equation, and each rule-1 name in them is held in the book or offered
+--   Agrees         one call: the reply and the workspace are the book's, and what it left in the lent bytes
+--   AllAgree       each call of the list, beside the book's answers
+--   Offerable      an offered equation that none of 5, 4, 6, 7 refuses
 --   OfferDecided   its fate: taken with a solution, refused with a proof without one
---   Faithful   the claim about one list; Demand3 the claim about all
+--   Faithful       the claim about one list; Demand3 the claim about all
 -- The book's run is unique: `runs-unique` of graph/proofs/BookLaws.
 use mathlib.Core.Path.{_≡_}
 use mathlib.Core.Bool.{false}

@@ -5,7 +5,7 @@
 --   Tied     fresh and the five calls of a list: declare both ways, equate, withdraw, clear
 --   Beside   compare, class and check, which the book doesn't know
 --   Files    proof files, the reader of a proof, the shorter of two
---   Stepwise an input's orders: what the theorem `Transcript` of session is about
+--   Stepwise an input's orders: what the theorem `Transcript` of eqtrace_session is about
 use mathlib.Core.Path.{_≡_}
 use mathlib.Core.List.{List}
 use Prim.Native.Nat.{ℕ, _/_}

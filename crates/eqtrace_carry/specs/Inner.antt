@@ -1,9 +1,9 @@
 -- What the parts of carrying out an order ask of each other.
 --   replyLines, comparisonLines   how many proof lines a reply has
---   answered, comparisonAnswered            what is said of a reply, with the names that it cites
---   Means                         the code's answer is what is said
---   CitesIn                       the first k of the lent names are cited by the first n lines; none where there is no line
---   Telling                       an answer's text, with the names that n lines cite
+--   answered, comparisonAnswered   what is said of a reply, with the names that it cites
+--   Means     the code's answer is what is said
+--   CitesIn   the first k of the lent names are cited by the first n lines; none where there is no line
+--   Telling   an answer's text, with the names that n lines cite
 use mathlib.Core.Path.{_≡_}
 use mathlib.Core.List.{List, []}
 use Prim.Native.Nat.{ℕ, _≤_}

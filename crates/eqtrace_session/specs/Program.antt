@@ -1,11 +1,11 @@
 -- The book's answer to an order and to a list of orders, cited names aside, and the claim about every list of orders.
---   forget     an answer without its names
---   spoken     the book's reply to a call, as an answer
---   Stance     how two nodes stand in the closure of the book's equations, by what is said of the same, below, above and apart
+--   forget           an answer without its names
+--   spoken           the book's reply to a call, as an answer
+--   Stance           how two nodes stand in the closure of the book's equations, by what is said of the same, below, above and apart
 --   BookAnswers      the book's answer to an order and its two lists afterwards; an order that can't be read, and a query, leave them
 --   BookAnswersAll   the same for a list of orders, counted from i
---   Session    what carrying out a list of orders may give: each order's contract and nothing else
---   FollowsBook   the answers are the book's, and the workspace has its two lists, with zero in unused places
+--   Session          what carrying out a list of orders may give: each order's contract and nothing else
+--   FollowsBook      the answers are the book's, and the workspace has its two lists, with zero in unused places
 use mathlib.Core.Path.{_≡_}
 use mathlib.Core.List.{List, [], _∷_, map}
 use mathlib.Core.Option.{Option, none, some}

@@ -1,13 +1,13 @@
 -- What one step of the marking stores, and what the tables hold after all of them.
 --   markOne, markAll   the lines that line k cites are marked, where they come before it
---   seeOne             the name of an equation line is noted
---   blockOne           and so is its block: names 64 b to 64 b + 63 are block b
---   blockSize          64
---   Blank              a table of n zeros
---   ones               how many entries are 1
---   Listable           both tables note the same names, at most 8,192
---   NamesNoted              and these are the cited ones
---   Listed             the first n of a list are the noted names, rising
+--   seeOne       the name of an equation line is noted
+--   blockOne     and so is its block: names 64 b to 64 b + 63 are block b
+--   blockSize    64
+--   Blank        a table of n zeros
+--   ones         how many entries are 1
+--   Listable     both tables note the same names, at most 8,192
+--   NamesNoted   and these are the cited ones
+--   Listed       the first n of a list are the noted names, rising
 use mathlib.Core.Path.{_≡_}
 use mathlib.Core.Bool.{cond}
 use mathlib.Core.List.{List, [], _∷_}

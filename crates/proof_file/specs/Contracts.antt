@@ -1,6 +1,6 @@
 -- What writing and reading a proof file promise.
---   FileReply as document 01's number: `refusalOf`
---   Writes    the reply with the byte count, and the buffer: the file, then the bytes past it as they were; a refusal leaves all
+--   readReply    reading's reply, from why the bytes are no proof file
+--   FileWritten, Writes   the reply with the byte count, and the buffer: the file, then the bytes past it as they were; a refusal leaves all
 use mathlib.Core.Path.{_≡_}
 use mathlib.Core.List.{List, _++_}
 use mathlib.Core.Option.{Option, none, some}

@@ -1,9 +1,9 @@
 -- The answers of the code about one rule, in graph's terms.
---   offerOf    the offered equation, if there is one
+--   offerOf          the offered equation, if there is one
 --   bothBelow, offerBelow   of n nodes, each named one is known
---   claimBy    a claim by its kind, start and end: kind 0 is same, any other below
---   claimed    the code's answer about a line, as a claim or none
---   placed     the child at a place, or none
+--   claimBy          a claim by its kind, start and end: kind 0 is same, any other below
+--   claimed          the code's answer about a line, as a claim or none
+--   placed           the child at a place, or none
 --   labelsCompared   how the labels of two nodes compare
 use mathlib.Core.Bool.{Bool, true, _&&_, cond}
 use mathlib.Core.Option.{Option, none, some}

@@ -1,11 +1,11 @@
 -- The verdict on a state, with its reason: a solution, two functor nodes that clash, or a cycle.
---   number    document 01's number of a verdict: 0 solved, 8 clash, 9 cycle
---   Solving   the table and heights are a solution; node u's height is the height of its class
---   Clashes   the table joins two functor nodes of different labels, and what it joins stands in the closure
---   Circles   the table is the closure, and some node lies below itself
---   LeftOver  the heights are the peel's, where there is no clash: by them `solve_reach` finds a cycle
---   Decided   the verdict is that of `graph`, the trace made the table, and the verdict has its reason
---   Resumable     the table and trace of a state that was decided without a clash: what an offered equation goes on from
+--   number      document 01's number of a verdict: 0 solved, 8 clash, 9 cycle
+--   Solving     the table and heights are a solution; node u's height is the height of its class
+--   Clashes     the table joins two functor nodes of different labels, and what it joins stands in the closure
+--   Circles     the table is the closure, and some node lies below itself
+--   LeftOver    the heights are the peel's, where there is no clash: by them `solve_reach` finds a cycle
+--   Decided     the verdict is that of `graph`, the trace made the table, and the verdict has its reason
+--   Resumable   the table and trace of a state that was decided without a clash: what an offered equation goes on from
 use mathlib.Core.Path.{_≡_}
 use mathlib.Core.List.{List}
 use Prim.Native.Nat.{ℕ, _≤_}

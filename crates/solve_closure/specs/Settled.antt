@@ -1,10 +1,10 @@
 -- The closure of a state, settled: a clash, or a table whose classes are those of the closure.
---   Given     what settling asks of the arrays: formed nodes, and equations between them
---   ArraysHold     the arrays hold the state; `stateOf` of store is one such, for well-shaped arrays
---   RoundsEnded     how rounds end, whatever the state: a table and a trace with room, and where there is a clash, its two nodes
---   Settled   the trace made the table; a clash, or the table is exact
---   OfferFits  what settling one offered equation more asks
---   Before    the table and trace are those of a state, before an equation is offered
+--   Given         what settling asks of the arrays: formed nodes, and equations between them
+--   ArraysHold    the arrays hold the state; `stateFrom` of store is one such, for well-shaped arrays
+--   RoundsEnded   how rounds end, whatever the state: a table and a trace with room, and where there is a clash, its two nodes
+--   Settled       the trace made the table; a clash, or the table is exact
+--   OfferFits     what settling one offered equation more asks
+--   Before        the table and trace are those of a state, before an equation is offered
 use mathlib.Core.Path.{_≡_}
 use mathlib.Core.Bool.{Bool, true, false}
 use mathlib.Core.List.{List}

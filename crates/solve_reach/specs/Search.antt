@@ -1,12 +1,12 @@
 -- The search downward from node u, on the arrays alone. parent, place, into and level are the arrays of specs/Reach, into being its child.
---   Source    steps down from node p count: p is in u's class or in one that was reached
---   Step      how class d was reached: into is the child of a functor node at a place, counted from 1
---   Explored    the children of node p lie in classes that were reached, where p is a source
---   Reached   what the search gives: Ways, a Step for each reached class, every node closed, zero for the classes not reached
---   Reaching  the search between two steps: r classes were reached
---   Entered   what a step down does
---   Grown     the reached classes get more
---   SearchPassed    what the first i turns of a pass over the nodes have done
+--   Source         steps down from node p count: p is in u's class or in one that was reached
+--   Step           how class d was reached: into is the child of a functor node at a place, counted from 1
+--   Explored       the children of node p lie in classes that were reached, where p is a source
+--   Reached        what the search gives: Ways, a Step for each reached class, every node closed, zero for the classes not reached
+--   Reaching       the search between two steps: r classes were reached
+--   Entered        what a step down does
+--   Grown          the reached classes get more
+--   SearchPassed   what the first i turns of a pass over the nodes have done
 --   LeadsBack, MayLeadBack   the search from a node led back to its class; it did, or the node isn't below itself
 use mathlib.Core.Path.{_≡_}
 use mathlib.Core.Bool.{Bool, true, false, cond}

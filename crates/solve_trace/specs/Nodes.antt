@@ -1,8 +1,8 @@
 -- What the solver asks of nodes and equations in lent arrays. `TermsShape` of store gives `Formed`.
---   IsFunctor  node u is known, and a functor node
---   Formed     nodes and children within the limits, each child an earlier node
---   Alike      equal labels, read off the arrays
---   EquationEnds       the equations of a state have the ends that two arrays have
+--   IsFunctor      node u is known, and a functor node
+--   Formed         nodes and children within the limits, each child an earlier node
+--   Alike          equal labels, read off the arrays
+--   EquationEnds   the equations of a state have the ends that two arrays have
 use mathlib.Core.Path.{_≡_}
 use mathlib.Core.List.{List}
 use mathlib.Core.Option.{some}

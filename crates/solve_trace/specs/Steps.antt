@@ -1,9 +1,9 @@
 -- What each function that merges does to the table t, the trace tr and the number n of its entries.
---   TraceFits    a table, and a trace with room for every merge to come
---   Joins    two nodes are joined, and the trace says why
---   Extends  a run of merges, each traced in every state of a kind
---   PairsJoined    such a run, after which the first k pairs of ends are joined
---   Places   states in which two nodes are a reason to join their children
+--   TraceFits     a table, and a trace with room for every merge to come
+--   Joins         two nodes are joined, and the trace says why
+--   Extends       a run of merges, each traced in every state of a kind
+--   PairsJoined   such a run, after which the first k pairs of ends are joined
+--   Places        states in which two nodes are a reason to join their children
 use mathlib.Core.Path.{_≡_}
 use mathlib.Core.List.{List}
 use Prim.Native.Nat.{ℕ, _+_, _*_, _≤_, _<_}

@@ -1,9 +1,9 @@
 -- Entries of a trace, as the arrays of nodes and equations have them.
---   endAt    the node that an entry joins on one side
---   InRange  an entry's numbers are places of the arrays
---   Limited  a state within the limits, and proper
---   EndsAndChildren     its equations have these ends, its nodes these children
---   ReasonHolds   an entry's reason on every table that has its two nodes in one class
+--   endAt             the node that an entry joins on one side
+--   InRange           an entry's numbers are places of the arrays
+--   Limited           a state within the limits, and proper
+--   EndsAndChildren   its equations have these ends, its nodes these children
+--   ReasonHolds       an entry's reason on every table that has its two nodes in one class
 use mathlib.Core.Path.{_≡_}
 use mathlib.Core.Bool.{cond}
 use mathlib.Core.List.{List}

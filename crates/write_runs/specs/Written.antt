@@ -1,7 +1,7 @@
 -- Lines in a buffer and their claims, for a writer that adds to them.
---   ClaimAt   line i claims c
+--   ClaimAt      line i claims c
 --   LinesClaim   the first n lines keep their rules, with these claims
---   More      lines that keep the claims so far, and line l among them claims c
+--   More         lines that keep the claims so far, and line l among them claims c
 use mathlib.Core.Path.{_≡_}
 use mathlib.Core.List.{List, []}
 use mathlib.Core.Option.{some}

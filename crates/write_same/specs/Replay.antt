@@ -1,13 +1,13 @@
 -- A trace replayed as proof lines.
---   Names      a state's equations, in order, have these names, all different
---   Describes  its equations and nodes are those of the arrays: what the writer reads of a state
---   ByPlace    an entry of two nodes and a place, as the rule `down` reads it
---   EntryReplayed    the lines of one entry
---   Made       the table of a part of the trace
---   Retraced   the lines of the first k entries
---   Prepared   the lines of the entries that a goal needs
---   OneClass   the entries join two nodes
---   Explained  lines that end in u same v
+--   Names           a state's equations, in order, have these names, all different
+--   Describes       its equations and nodes are those of the arrays: what the writer reads of a state
+--   ByPlace         an entry of two nodes and a place, as the rule `down` reads it
+--   EntryReplayed   the lines of one entry
+--   Made            the table of a part of the trace
+--   Retraced        the lines of the first k entries
+--   Prepared        the lines of the entries that a goal needs
+--   OneClass        the entries join two nodes
+--   Explained       lines that end in u same v
 -- A promise is made for every state that the arrays describe.
 use mathlib.Core.Path.{_≡_}
 use mathlib.Core.List.{List}
