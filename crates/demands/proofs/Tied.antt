@@ -32,7 +32,7 @@ files = record {
 
 pub stepwise : Stepwise
 stepwise = record {
-  begins = λ c p. p;
+  begins = λ κs input c x p. p;
   ends = λ c w x p. p;
   steps = λ κs c input proof names out r x y proof′ names′ out′ p. p;
 }

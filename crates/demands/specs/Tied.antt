@@ -89,7 +89,7 @@ pub record Files : Type 0 where
       → shorter.Post κs (w, (f, (a, (b, (g, tt))))) r (x, (y, (z, (t, (h, tt))))) → Hands w (offerOf f) (goalOf g) (now a) (now b) (now r)
 
 pub record Stepwise : Type 0 where
-  pub begins : (c : Cursor) → begin.Post tt tt c tt → c ≡ beginning
+  pub begins : (κs : Lfts 1) (input : RefT (List ℕ)) (c : Cursor) (x : RefT (List ℕ)) → begin.Post κs (input, tt) c (x, tt) → c ≡ beginning (now input)
   pub ends : (c : Cursor) (w : Workspace) (x : Cursor) → workspace.Post tt (c, tt) w (x, tt) → w ≡ c .workspace
   pub steps : (κs : Lfts 4) (c : Cursor) (input proof names out : RefT (List ℕ)) (r : Stepped) (x : Cursor) (y proof′ names′ out′ : RefT (List ℕ))
       → step.Post κs (c, (input, (proof, (names, (out, tt))))) r (x, (y, (proof′, (names′, (out′, tt))))) → Steps c (now input) (now proof) (now proof′) (now out) (now out′) r

@@ -31,9 +31,10 @@ use Rattle.unifier.specs.declared.Comparison.{Comparison}
 use Rattle.unifier.specs.declared.Comparison.the-variants as stands
 use Rattle.eqtrace_orders.specs.Grammar.{Order}
 use Rattle.eqtrace_orders.specs.Grammar as order
-use Rattle.eqtrace_answers.specs.Text.{Output, refused}
+use Rattle.eqtrace_answers.specs.Text.{Output, refused, refuses}
 use Rattle.eqtrace_answers.specs.Puts.{meant, Says}
 use Rattle.eqtrace_answers.specs.declared.Answer.{Answer as Code}
+use Rattle.eqtrace_answers.specs.declared.Answer.the-variants as says
 use Rattle.eqtrace_carry.specs.Carried.{plainly, Spoken, Stated, Called, Offered, Does, Carries}
 use Rattle.eqtrace_carry.specs.Inner.{replyLines, comparisonLines, answered, comparisonAnswered, Means, CitesIn, Telling, Replying}
 use Rattle.eqtrace_carry.specs.declared.Carried.{Carried}
@@ -45,6 +46,18 @@ means-reply x a b r e h = rw e h
 
 pub means-comparison : (a b : Comparison) (r : Code) → a ≡ b → Means (comparisonAnswered b) r → Means (comparisonAnswered a) r
 means-comparison a b r e h = rw e h
+
+-- names don't make a refusal
+refuses-meant : (a : Code) (ns : List ℕ) → refuses (meant a []) ≡ refuses (meant a ns)
+refuses-meant (says.Node i) ns = refl
+refuses-meant (says.Held n) ns = refl
+refuses-meant (says.Gone n) ns = refl
+refuses-meant says.Same ns = refl
+refuses-meant says.Below ns = refl
+refuses-meant says.Above ns = refl
+refuses-meant says.Apart ns = refl
+refuses-meant (says.Refused k) ns = refl
+refuses-meant (says.Unreadable i) ns = refl
 
 -- ---- cited names
 
@@ -82,12 +95,13 @@ taken-rising ls names k h c =
     })
 
 pub telling : (w : Workspace) (a : Code) (n : ℕ) (bytes names old new : List ℕ) (k : ℕ) (r : Carried) → CitesIn n bytes names k → length names ≡ 8192
-    → Says (meant a (take k names)) old new (r .length) → r .workspace ≡ w → Telling w a n bytes old new r
-telling w a n bytes names old new k r c l s q = record {
+    → Says (meant a (take k names)) old new (r .length) → r .refused ≡ refuses (meant a []) → r .workspace ≡ w → Telling w a n bytes old new r
+telling w a n bytes names old new k r c l s f q = record {
   names = take k names;
   none = λ e. ap (λ (j : ℕ). take j names) (c .none e);
   some = λ e. taken-rising (firstLines n bytes) names k (omega (arith, c .few, l)) (c .some e);
   says = s;
+  refused-is = f ∙ refuses-meant a (take k names);
   workspace = q;
 }
 
@@ -104,7 +118,7 @@ plain x (Cycle n) = refl
 pub replying : (o : Outcome) (x : ℕ) (a : Code) (bytes old new : List ℕ) (r : Carried) → Means (answered x (o .reply)) a → Telling (o .workspace) a 0 bytes old new r → Replying o x old new r
 replying o x a bytes old new r m t =
     let e : meant a (t .names) ≡ plainly x (o .reply) = ap (meant a) (t .none refl) ∙ m .means [] ∙ plain x (o .reply) in
-    record { says = rw (← e) (t .says); workspace = t .workspace }
+    record { says = rw (← e) (t .says); refused-is = t .refused-is ∙ ap refuses e; workspace = t .workspace }
 
 module _ (w : Workspace) (c : book.Call) (x : ℕ) (o : Outcome) (old new : List ℕ) (r : Carried) (A : Answers w c o) (R : Replying o x old new r) (proof : List ℕ) where
   pub called : Called w c x proof proof (plainly x (o .reply)) (r .workspace)
@@ -112,7 +126,7 @@ module _ (w : Workspace) (c : book.Call) (x : ℕ) (o : Outcome) (old new : List
 
   pub carries : (i : ℕ) (t : Option Order) → (Called w c x proof proof (plainly x (o .reply)) (r .workspace) → Does w i t proof proof (plainly x (o .reply)) (r .workspace))
       → Carries w i t proof proof old new r
-  carries i t k = record { answer = plainly x (o .reply); does = k called; says = R .says }
+  carries i t k = record { answer = plainly x (o .reply); does = k called; says = R .says; refused-is = R .refused-is }
 
 -- the part of the children from place 0 on
 pub declares : (w : Workspace) (f k : ℕ) (cs : List ℕ) (o : Outcome) → Answers w (book.declare (functor f (take (k - 0) cs))) o → Answers w (book.declare (functor f (take k cs))) o
@@ -150,6 +164,7 @@ module _ (w : Workspace) (e : Equation) (before after : List ℕ) where
         answer = meant a (u .names);
         does = f (meant a (u .names)) (record { outcome = o; equates = q; said = spoken a old new (o .workspace) r (o .reply) m u (q .written); workspace = u .workspace });
         says = u .says;
+        refused-is = u .refused-is;
       }
 
 -- ---- a query
@@ -218,4 +233,5 @@ module _ (w : Workspace) (x y : ℕ) (before after : List ℕ) where
         answer = meant a (u .names);
         does = record { compared = o; compares = q; said = stated a old new (o .workspace) r (o .reply) m u (compare-counted o q); workspace = u .workspace };
         says = u .says;
+        refused-is = u .refused-is;
       }

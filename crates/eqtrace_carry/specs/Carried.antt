@@ -4,7 +4,7 @@
 --   Spoken     what is said of an offered equation's reply: clash and cycle cite
 --   Stated     what is said of a comparison: same, below and above cite
 --   Does       the order's call by its own contract, and the answer; an order that can't be read changes nothing
---   Carries    the same with the answer's text in the lent buffer
+--   Carries    the same with the answer's text in the lent buffer, and whether it refuses
 use mathlib.Core.Path.{_≡_}
 use mathlib.Core.List.{List, []}
 use mathlib.Core.Option.{Option, none, some}
@@ -27,7 +27,7 @@ use Rattle.unifier.specs.declared.Comparison.{Comparison}
 use Rattle.unifier.specs.declared.Comparison.the-variants as stands
 use Rattle.eqtrace_orders.specs.Grammar.{Order}
 use Rattle.eqtrace_orders.specs.Grammar as order
-use Rattle.eqtrace_answers.specs.Text.{Output, node, held, gone, same, below, above, apart, refused, unreadable}
+use Rattle.eqtrace_answers.specs.Text.{Output, node, held, gone, same, below, above, apart, refused, unreadable, refuses}
 use Rattle.eqtrace_answers.specs.Puts.{Says}
 use Rattle.eqtrace_carry.specs.declared.Carried.{Carried}
 
@@ -100,3 +100,4 @@ pub record Carries (w : Workspace) (i : ℕ) (o : Option Order) (before after ol
   pub answer : Output
   pub does : Does w i o before after answer (r .workspace)
   pub says : Says answer old new (r .length)
+  pub refused-is : r .refused ≡ refuses answer

@@ -15,7 +15,7 @@ use Rattle.unifier.specs.declared.Reply.{Reply}
 use Rattle.unifier.specs.declared.Reply.the-variants.{Node, Held, Gone, Refused, Clash, Cycle}
 use Rattle.unifier.specs.declared.Comparison.{Comparison}
 use Rattle.unifier.specs.declared.Comparison.the-variants as stands
-use Rattle.eqtrace_answers.specs.Text.{Output, node, held, gone, same, below, above, apart, refused}
+use Rattle.eqtrace_answers.specs.Text.{Output, node, held, gone, same, below, above, apart, refused, refuses}
 use Rattle.eqtrace_answers.specs.Puts.{meant, Small, Says}
 use Rattle.eqtrace_answers.specs.declared.Answer.{Answer as Code}
 use Rattle.unifier.specs.declared.Outcome.{Outcome}
@@ -71,11 +71,13 @@ pub record Telling (w : Workspace) (a : Code) (n : ℕ) (bytes old new : List �
   pub none : n ≡ 0 → names ≡ []
   pub some : 1 ≤ n → CitedRising (firstLines n bytes) names (length names)
   pub says : Says (meant a names) old new (r .length)
+  pub refused-is : r .refused ≡ refuses (meant a names)
   pub workspace : r .workspace ≡ w
 
 -- the answer to a call that cites nothing
 pub record Replying (o : Outcome) (x : ℕ) (old new : List ℕ) (r : Carried) : Type 0 where
   pub says : Says (plainly x (o .reply)) old new (r .length)
+  pub refused-is : r .refused ≡ refuses (plainly x (o .reply))
   pub workspace : r .workspace ≡ o .workspace
 
 -- a functor node declared

@@ -19,10 +19,11 @@ use unifier::Outcome;
 use unifier::Reply;
 use unifier::Workspace;
 
-// The workspace after an order, and how many bytes its answer has.
+// The workspace after an order, how many bytes its answer has, and whether it was refused.
 pub struct Carried {
     pub workspace: Workspace,
     pub length: usize,
+    pub refused: bool,
 }
 
 // What is said of a reply, names aside.
@@ -102,11 +103,13 @@ fn tell<'a>(
     requires { ⌜ Small answer × (8 * n ≤ length (now proof)) × (n ≤ lineLimit) × (length (now names) ≡ lineLimit) × (answerRoom ≤ length (now out)) ⌝ }
     ensures { λ r. ⌜ Telling w answer n (now (proof .entry)) (now (out .entry)) (now (out .exit)) r ⌝ }
 {
+    let refused = eqtrace_answers::is_refusal(answer);
     let k = cite(proof, n, names);
     let length = eqtrace_answers::say(out, answer, names, k);
     Carried {
         workspace: w,
         length: length,
+        refused: refused,
     }
 }
 

@@ -7,7 +7,7 @@ use unifier::Workspace;
 
 // Prints each answer in full before the next order is looked at. What `write_all` does no contract can say; that the steps are those of the
 // whole input, from its beginning to its end, `Finished` says, and what their texts are `eqtrace_session` promises.
-fn answer_all<'a>(
+pub fn answer_all<'a>(
     input: &'a [u8],
     proof: &mut [u8; 65536],
     names: &mut [u16; 8192],
@@ -15,7 +15,7 @@ fn answer_all<'a>(
 ) -> Workspace
     ensures { λ r. ⌜ Finished (now (input .entry)) r ⌝ }
 {
-    let mut c = eqtrace_session::begin();
+    let mut c = eqtrace_session::begin(input);
     loop {
         let s = eqtrace_session::step(c, input, proof, names, out);
         let n = s.length;

@@ -9,9 +9,9 @@ use Rattle.eqtrace_session.proofs.workspace.Reads as workspace
 use Rattle.eqtrace_session.proofs.step.Reads as step
 
 pub record Free : Type 0 where
-  pub begins : begin.Pre tt tt
+  pub begins : (κs : Lfts 1) (input : RefT (List ℕ)) → begin.Pre κs (input, tt)
   pub ends : (c : Cursor) → workspace.Pre tt (c, tt)
   pub steps : (κs : Lfts 4) (c : Cursor) (input proof names out : RefT (List ℕ)) → step.Pre κs (c, (input, (proof, (names, (out, tt)))))
 
 pub free : Free
-free = record { begins = tt; ends = λ c. tt; steps = λ κs c input proof names out. tt }
+free = record { begins = λ κs input. tt; ends = λ c. tt; steps = λ κs c input proof names out. tt }

@@ -1,6 +1,7 @@
 -- A list of orders is answered as the book answers it.
 use mathlib.Core.Path.{_≡_, refl, sym, ap, _∙_, subst}
-use mathlib.Core.List.{List, map}
+use mathlib.Core.Bool.{Bool}
+use mathlib.Core.List.{List, _∷_, map}
 use mathlib.Core.Option.{Option, none, some}
 use Prim.Native.Nat.{ℕ, _+_}
 use lib.ListN.{length}
@@ -20,9 +21,9 @@ use Rattle.unifier.specs.declared.Comparison.the-variants as stands
 use Rattle.unifier.proofs.PackedLaws.{repacked, packed-lists, fresh-valid, fresh-state}
 use Rattle.eqtrace_orders.specs.Grammar.{Order, orderOf}
 use Rattle.eqtrace_orders.specs.Grammar as order
-use Rattle.eqtrace_answers.specs.Text.{Output}
+use Rattle.eqtrace_answers.specs.Text.{Output, node, held, gone, same, below, above, apart, refused, unreadable, refuses}
 use Rattle.eqtrace_carry.specs.Carried.{plainly, Spoken, Stated, Does}
-use Rattle.eqtrace_session.specs.Program.{forget, spoken, Calls, QueryReplies, BookAnswers, BookAnswersAll, Session, Orders}
+use Rattle.eqtrace_session.specs.Program.{forget, spoken, Calls, QueryReplies, BookAnswers, goesOn, leftAfter, BookAnswersAll, Session, Orders}
 use Rattle.eqtrace_session.specs.Program as told
 
 -- ---- one order
@@ -96,21 +97,39 @@ module _ (w : Workspace) (ok : Valid w) (i : ℕ) where
 
 -- ---- a list of orders
 
-record All (s : State) (i : ℕ) (lines : List (List ℕ)) (answers : List Output) (v : Workspace) : Type 0 where
-  pub state : State
-  pub told : BookAnswersAll s i lines (map forget answers) state
-  pub workspace : v ≡ packed state
-  pub valid : Valid v
+refuses-forget : (a : Output) → refuses (forget a) ≡ refuses a
+refuses-forget (node i) = refl
+refuses-forget (held n) = refl
+refuses-forget (gone n) = refl
+refuses-forget (same ns) = refl
+refuses-forget (below ns) = refl
+refuses-forget (above ns) = refl
+refuses-forget apart = refl
+refuses-forget (refused k ns) = refl
+refuses-forget (unreadable i) = refl
 
-all : {w v : Workspace} {i : ℕ} {lines : List (List ℕ)} {answers : List Output} → Valid w → Session w i lines answers v → All (stateOf w) i lines answers v
-all ok (told.over {w}) = record { state = stateOf w; told = told.over; workspace = repacked w (ok .shape); valid = ok }
-all ok (told.next {w} {v} {u} {i} {line} {lines} {a} {answers} before after n d more) =
-    let t : Step (stateOf w) i (orderOf line) a v = step w ok i (orderOf line) before after a v n d in
-    let r : All (t .state) (i + 1) lines answers u = subst (λ (s : State). All s (i + 1) lines answers u) (packed-lists (t .state) v (t .workspace) (t .valid)) (all (t .valid) more) in
-    record { state = r .state; told = told.next (t .tells) (r .told); workspace = r .workspace; valid = r .valid }
+module _ (keep : Bool) where
+  record All (s : State) (i : ℕ) (lines : List (List ℕ)) (answers : List Output) (v : Workspace) : Type 0 where
+    pub state : State
+    pub told : BookAnswersAll keep s i lines (map forget answers) state
+    pub workspace : v ≡ packed state
+    pub valid : Valid v
 
--- for every list of orders, and so for the orders of every input
+  all-more : (w v u : Workspace) (i : ℕ) (line : List ℕ) (lines : List (List ℕ)) (a : Output) (answers : List Output) (before after : List ℕ) → Valid w → length before ≡ bufferBytes
+      → Does w i (orderOf line) before after a v → (Valid v → All (stateOf v) (i + 1) (leftAfter keep a lines) answers u) → All (stateOf w) i (line ∷ lines) (a ∷ answers) u
+  all-more w v u i line lines a answers before after ok n d more =
+      let t : Step (stateOf w) i (orderOf line) a v = step w ok i (orderOf line) before after a v n d in
+      let l : leftAfter keep a lines ≡ leftAfter keep (forget a) lines = rw (refuses-forget a) in
+      let m : All (t .state) (i + 1) (leftAfter keep a lines) answers u = subst (λ (s : State). All s (i + 1) (leftAfter keep a lines) answers u) (packed-lists (t .state) v (t .workspace) (t .valid)) (more (t .valid)) in
+      let r : All (t .state) (i + 1) (leftAfter keep (forget a) lines) answers u = subst (λ (ls : List (List ℕ)). All (t .state) (i + 1) ls answers u) l m in
+      record { state = r .state; told = told.next (t .tells) (r .told); workspace = r .workspace; valid = r .valid }
+
+  all : {w v : Workspace} {i : ℕ} {lines : List (List ℕ)} {answers : List Output} → Valid w → Session keep w i lines answers v → All (stateOf w) i lines answers v
+  all ok (told.over {w}) = record { state = stateOf w; told = told.over; workspace = repacked w (ok .shape); valid = ok }
+  all ok (told.next {w} {v} {u} {i} {line} {lines} {a} {answers} before after n d more) = all-more w v u i line lines a answers before after ok n d (λ valid. all valid more)
+
+-- for every script, and so for that of every input
 pub faithful : Orders
-faithful lines answers w run =
-    let r : All emptyState 1 lines answers w = subst (λ (s : State). All s 1 lines answers w) fresh-state (all fresh-valid run) in
+faithful p answers w run =
+    let r : All (p .keep) emptyState (p .first) (p .orders) answers w = subst (λ (s : State). All (p .keep) s (p .first) (p .orders) answers w) fresh-state (all (p .keep) fresh-valid run) in
     record { state = r .state; told = r .told; workspace = r .workspace; valid = r .valid }

@@ -1,17 +1,22 @@
 -- One step of a cursor: the code's, and as the program's loop sees it.
 use mathlib.Core.Path.{_≡_, refl, sym, ap, _∙_, subst}
-use mathlib.Core.Bool.{true, false}
+use mathlib.Core.Bool.{Bool, true, false, _||_, not, cond}
 use mathlib.Core.List.{List, [], _∷_}
 use mathlib.Core.Option.{none}
-use Prim.Native.Nat.{ℕ, _+_, _≤_, _<_}
+use Prim.Native.Nat.{ℕ, _+_, _-_, _≤_, _<_}
 use native.Mathlib.Omega.{arith}
 use lib.ListN.{length, take, drop, length-append}
 use lib.Seq.{take-append-seam}
 use Rattle.graph.specs.Limits.{bufferBytes}
+use Rattle.unifier.specs.Views.{freshWorkspace}
 use Rattle.unifier.specs.declared.Workspace.{Workspace}
-use Rattle.eqtrace_answers.specs.Text.{Output, unreadable, wordOf, textOf}
+use Rattle.eqtrace_orders.specs.Grammar.{isKeep}
+use Rattle.eqtrace_orders.specs.Input.{firstLine, EndsAt}
+use Rattle.eqtrace_orders.proofs.InputLaws.{first-line}
+use Rattle.eqtrace_answers.specs.Text.{Output, unreadable, wordOf, textOf, refuses}
 use Rattle.eqtrace_answers.specs.Puts.{Puts, Says, answerRoom}
-use Rattle.eqtrace_session.specs.Steps.{cursorAt, leftOf, TooLong, StepsBy, Steps}
+use Rattle.eqtrace_session.specs.Program.{goesOn}
+use Rattle.eqtrace_session.specs.Steps.{cursorAt, beginning, leftOf, TooLong, nextPlace, StepsBy, Steps}
 use Rattle.eqtrace_carry.specs.Carried.{Carries}
 use Rattle.eqtrace_carry.specs.declared.Carried.{Carried}
 use Rattle.eqtrace_session.specs.declared.Cursor.{Cursor}
@@ -30,13 +35,25 @@ text-is old new bytes n p =
 text-inside : (old new bytes : List ℕ) (n : ℕ) → Puts old 0 bytes new n → n ≤ length new
 text-inside old new bytes n p = omega (arith, p .end, ap length (p .written), length-append bytes (drop (0 + length bytes) old))
 
+-- ---- the code's cursors
+
+pub cursor-begun : (input : List ℕ) (end : ℕ) (w : Workspace) → EndsAt input 0 end → w ≡ freshWorkspace → (keep : Bool) → isKeep (take (end - 0) input) ≡ keep
+    → cond keep (cursorAt true w 2 2) (cursorAt false w 0 1) ≡ beginning input
+cursor-begun input end w e f keep k =
+    let q : isKeep (firstLine input) ≡ keep = ap isKeep (sym (first-line input end e)) ∙ k in
+    rw (f, q)
+
+pub cursor-next : (keep : Bool) (a : Output) (w : Workspace) (end size i at : ℕ) (refused : Bool) → refused ≡ refuses a → at ≡ cond (keep || not refused) (end + 1) size
+    → cursorAt keep w at i ≡ cursorAt keep w (nextPlace keep a end size) i
+cursor-next keep a w end size i at refused f e = rw (e, f)
+
 -- ---- the code's steps
 
-pub said-too-long : (w : Workspace) (end i : ℕ) (old new : List ℕ) (t : Carried) → Carries w 0 none [] [] old new t
-    → TooLong w end i old new (record { cursor = cursorAt (t .workspace) end i; length = t .length })
-said-too-long w end i old new t C = record {
+pub said-too-long : (keep : Bool) (w : Workspace) (end i : ℕ) (old new : List ℕ) (t : Carried) → Carries w 0 none [] [] old new t
+    → TooLong keep w end i old new (record { cursor = cursorAt keep (t .workspace) end i; length = t .length })
+said-too-long keep w end i old new t C = record {
   says = subst (λ (a : Output). Says a old new (t .length)) (C .does .said) (C .says);
-  cursor = ap (λ (v : Workspace). cursorAt v end i) (C .does .workspace);
+  cursor = ap (λ (v : Workspace). cursorAt keep v end i) (C .does .workspace);
 }
 
 pub steps-at : (c : Cursor) (input before after old new : List ℕ) (r : Stepped) (l : Left) → l ≡ leftOf input (c .at) (c .number) → StepsBy l c input before after old new r
@@ -47,6 +64,14 @@ steps-at c input before after old new r l e s p t = record { step = rw (← e) s
 
 text-some : (a : Output) → 1 ≤ length (textOf a)
 text-some a = omega (arith, length-append (wordOf a) (10 ∷ []))
+
+-- the next place lies behind the order's, whether it is the next line's or the end
+pub place-on : (keep : Bool) (a : Output) (at end size : ℕ) → at ≤ end → at < size → at < nextPlace keep a end size
+place-on keep a at end size h l = go (goesOn keep a)
+  where
+    go : (b : Bool) → at < cond b (end + 1) size
+    go true = omega arith
+    go false = l
 
 -- a text was said, and the cursor moved on
 record Moves (c : Cursor) (input old new : List ℕ) (r : Stepped) : Type 0 where
@@ -67,7 +92,7 @@ module _ (c : Cursor) (input before after old new : List ℕ) (r : Stepped) wher
         answer = s .carries .answer;
         says = subst (λ (k : ℕ). Says (s .carries .answer) old new k) (sym (s .length-is)) (s .carries .says);
         inside = b .inside;
-        on = omega (arith, s .ends .end-at, ap (λ (d : Cursor). d .at) (s .cursor));
+        on = omega (arith, place-on (c .keep) (s .carries .answer) (c .at) (s .end) (length input) (omega (arith, s .ends .end-at)) (b .inside), ap (λ (d : Cursor). d .at) (s .cursor));
       }
 
   -- a step without a text leaves nothing; any other moves on

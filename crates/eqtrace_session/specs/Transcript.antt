@@ -1,9 +1,10 @@
--- What the program prints for an input (document 01, "The program `eqtrace`"), from the input's bytes.
+-- What the program prints for an input (document 01, "The program `eqtrace`"; document 02 (a)), from the input's bytes.
 --   inputLimit  65,536
 --   textsOf     the answers' texts, one after the other
---   AnswersTo   the answers to an input and the workspace after it: those to its orders, counted from 1, from the fresh workspace on, each
---               order by its call's own contract with the names that the lines written rest on. An input of more than 65,536 bytes has no
---               orders and one answer, `refused 16 0`
+--   scriptIn    the script that an input is
+--   AnswersTo   the answers to an input and the workspace after it: those to its script, from the fresh workspace on, each order by its
+--               call's own contract with the names that the lines written rest on. An input of more than 65,536 bytes has no orders and one
+--               answer, `refused 16 0`
 --   Told        the book's answers to an input, cited names aside; `told-unique` of proofs/TellsLaws leaves one list of them
 --   Printed     the bytes printed for an input
 --   Finished    the workspace after an input, whatever names were cited
@@ -18,11 +19,14 @@ use Rattle.unifier.specs.Views.{Valid, packed, freshWorkspace}
 use Rattle.unifier.specs.declared.Workspace.{Workspace}
 use Rattle.eqtrace_orders.specs.Grammar.{ordersIn}
 use Rattle.eqtrace_answers.specs.Text.{Output, unreadable, textOf}
-use Rattle.eqtrace_session.specs.Program.{forget, BookAnswersAll, Session}
+use Rattle.eqtrace_session.specs.Program.{forget, BookAnswersAll, Session, Script, scriptOf}
 
 abbrev pub textsOf : List Output → List ℕ
 textsOf [] = []
 textsOf (a ∷ answers) = textOf a ++ textsOf answers
+
+abbrev pub scriptIn : List ℕ → Script
+scriptIn input = scriptOf (ordersIn input)
 
 -- bytes of an input, and so as many orders
 abbrev pub inputLimit : ℕ
@@ -33,14 +37,14 @@ tooLong input = ltb inputLimit (length input)
 
 abbrev pub AnswersBy : Bool → List ℕ → List Output → Workspace → Type 0
 AnswersBy true input answers w = (answers ≡ unreadable 0 ∷ []) × (w ≡ freshWorkspace)
-AnswersBy false input answers w = Session freshWorkspace 1 (ordersIn input) answers w
+AnswersBy false input answers w = Session (scriptIn input .keep) freshWorkspace (scriptIn input .first) (scriptIn input .orders) answers w
 
 abbrev pub AnswersTo : List ℕ → List Output → Workspace → Type 0
 AnswersTo input answers w = AnswersBy (tooLong input) input answers w
 
 abbrev pub ToldBy : Bool → List ℕ → List Output → State → Type 0
 ToldBy true input answers s = (answers ≡ unreadable 0 ∷ []) × (s ≡ emptyState)
-ToldBy false input answers s = BookAnswersAll emptyState 1 (ordersIn input) answers s
+ToldBy false input answers s = BookAnswersAll (scriptIn input .keep) emptyState (scriptIn input .first) (scriptIn input .orders) answers s
 
 abbrev pub Told : List ℕ → List Output → State → Type 0
 Told input answers s = ToldBy (tooLong input) input answers s

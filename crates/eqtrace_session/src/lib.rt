@@ -1,6 +1,7 @@
 // An input's orders carried out, one after the other: `begin`, then `step` until nothing is left. The buffers are those of `eqtrace_carry`.
 ghost use mathlib.Core.Path.{_≡_};
-ghost use Prim.Native.Nat.{_≤_, _<_};
+ghost use mathlib.Core.Bool.{_||_, not, cond};
+ghost use Prim.Native.Nat.{_+_, _≤_, _<_};
 ghost use lib.ListN.{length};
 ghost use Rattle.graph.specs.Limits.{lineLimit, bufferBytes};
 ghost use Rattle.eqtrace_orders.specs.Input.{EndsAt};
@@ -13,8 +14,10 @@ const INPUT: usize = 65536; // bytes of an input
 
 const ORDERS: u32 = 65536; // of an input: each has at least its line break, but perhaps the last
 
-// A place in an input: the workspace after the orders before it, where the next one begins, and its number. Only `begin` and `step` make one.
+// A place in an input: whether to keep going after a refusal, the workspace after the orders before it, where the next one begins, and its
+// number. Only `begin` and `step` make one.
 pub struct Cursor {
+    keep: bool,
     workspace: Workspace,
     at: usize,
     number: u32,
@@ -31,18 +34,6 @@ enum Left {
 pub struct Stepped {
     pub cursor: Cursor,
     pub length: usize,
-}
-
-// Where every input begins.
-pub fn begin() -> Cursor
-    ensures { λ r. ⌜ r ≡ beginning ⌝ }
-{
-    let w = Workspace::fresh();
-    Cursor {
-        workspace: w,
-        at: 0,
-        number: 1,
-    }
 }
 
 pub fn workspace(c: Cursor) -> Workspace
@@ -82,15 +73,45 @@ fn line_end(input: &[u8], at: usize) -> usize
     i
 }
 
+// Where an input's first order to answer begins: behind a first line `K`, which is order 1 and keeps going, or at the first byte.
+pub fn begin(input: &[u8]) -> Cursor
+    ensures { λ r. ⌜ r ≡ beginning (now (input .entry)) ⌝ }
+{
+    let w = Workspace::fresh();
+    let e = line_end(input, 0);
+    if eqtrace_orders::is_keep(&input[0..e]) {
+        return Cursor {
+            keep: true,
+            workspace: w,
+            at: 2,
+            number: 2,
+        };
+    }
+    Cursor {
+        keep: false,
+        workspace: w,
+        at: 0,
+        number: 1,
+    }
+}
+
 // The one answer to an input that is too long.
-fn too_long(w: Workspace, end: usize, i: u32, names: &mut [u16], out: &mut [u8]) -> Stepped
+fn too_long(
+    keep: bool,
+    w: Workspace,
+    end: usize,
+    i: u32,
+    names: &mut [u16],
+    out: &mut [u8],
+) -> Stepped
     requires { ⌜ (length (now names) ≡ lineLimit) × (answerRoom ≤ length (now out)) ⌝ }
-    ensures { λ r. ⌜ TooLong w end i (now (out .entry)) (now (out .exit)) r ⌝ }
+    ensures { λ r. ⌜ TooLong keep w end i (now (out .entry)) (now (out .exit)) r ⌝ }
 {
     let carried = eqtrace_carry::unreadable(w, 0, names, out);
     let v = carried.workspace;
     Stepped {
         cursor: Cursor {
+            keep: keep,
             workspace: v,
             at: end,
             number: i,
@@ -99,8 +120,17 @@ fn too_long(w: Workspace, end: usize, i: u32, names: &mut [u16], out: &mut [u8])
     }
 }
 
-// The order at `at`, and the cursor behind it. This is the place that decides whether to go on: after every reply, refusals too.
+// Where to go on behind an order that ends at `end`, in an input of `size` bytes. This is the place that decides whether to go on at all.
+fn next_place(keep: bool, refused: bool, end: usize, size: usize) -> usize
+    requires { ⌜ end ≤ inputLimit ⌝ }
+    ensures { λ r. ⌜ r ≡ cond (keep || not refused) (end + 1) size ⌝ }
+{
+    if keep | !refused { end + 1 } else { size }
+}
+
+// The order at `at`, and the cursor behind it.
 fn order_at<'a>(
+    keep: bool,
     w: Workspace,
     input: &'a [u8],
     at: usize,
@@ -110,15 +140,17 @@ fn order_at<'a>(
     out: &mut [u8],
 ) -> Stepped
     requires { ⌜ (at < length (now input)) × (length (now input) ≤ inputLimit) × (i ≤ inputLimit) × (length (now proof) ≡ bufferBytes) × (length (now names) ≡ lineLimit) × (answerRoom ≤ length (now out)) ⌝ }
-    ensures { λ r. ⌜ OrderAt w (now (input .entry)) at i (now (proof .entry)) (now (proof .exit)) (now (out .entry)) (now (out .exit)) r ⌝ }
+    ensures { λ r. ⌜ OrderAt keep w (now (input .entry)) at i (now (proof .entry)) (now (proof .exit)) (now (out .entry)) (now (out .exit)) r ⌝ }
 {
     let e = line_end(input, at);
     let carried = eqtrace_carry::carry_out(w, &input[at..e], i, proof, names, out);
     let after = carried.workspace;
+    let next = next_place(keep, carried.refused, e, input.len());
     Stepped {
         cursor: Cursor {
+            keep: keep,
             workspace: after,
-            at: e + 1,
+            at: next,
             number: i + 1,
         },
         length: carried.length,
@@ -135,6 +167,7 @@ pub fn step<'a>(
 ) -> Stepped
     ensures { λ r. ⌜ Steps c (now (input .entry)) (now (proof .entry)) (now (proof .exit)) (now (out .entry)) (now (out .exit)) r ⌝ }
 {
+    let keep = c.keep;
     let w = c.workspace;
     let at = c.at;
     let i = c.number;
@@ -146,7 +179,7 @@ pub fn step<'a>(
             cursor: c,
             length: 0,
         },
-        Left::TooLong => too_long(w, input.len(), i, n, o),
-        Left::Order => order_at(w, input, at, i, p, n, o),
+        Left::TooLong => too_long(keep, w, input.len(), i, n, o),
+        Left::Order => order_at(keep, w, input, at, i, p, n, o),
     }
 }

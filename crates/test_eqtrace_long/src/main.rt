@@ -1,4 +1,4 @@
-// An input of 65,537 bytes.
+// An input of 65,537 bytes, `K` among them.
 fn main() {
     eqtrace_console::run();
 }
