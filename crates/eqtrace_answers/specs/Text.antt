@@ -2,8 +2,7 @@
 --   decimal   a number's digits
 --   Output    what the program says of one order
 --   textOf    its bytes, with the line break
---   refuses   it says that the order was refused
-use mathlib.Core.Bool.{Bool, true, false, cond}
+use mathlib.Core.Bool.{cond}
 use mathlib.Core.List.{List, [], _∷_, _++_}
 use Prim.Native.Nat.{ℕ, zero, suc, _+_, _/_, _%_}
 use lib.Dec.{ltb}
@@ -47,14 +46,3 @@ wordOf (unreadable i) = 114 ∷ 101 ∷ 102 ∷ 117 ∷ 115 ∷ 101 ∷ 100 ∷ 
 
 abbrev pub textOf : Output → List ℕ
 textOf a = wordOf a ++ (10 ∷ [])
-
-abbrev pub refuses : Output → Bool
-refuses (node n) = false
-refuses (held n) = false
-refuses (gone n) = false
-refuses (same ns) = false
-refuses (below ns) = false
-refuses (above ns) = false
-refuses apart = false
-refuses (refused k ns) = true
-refuses (unreadable i) = true

@@ -3,7 +3,7 @@ ghost use mathlib.Core.Path.{_≡_};
 ghost use mathlib.Core.List.{[], _∷_, _++_};
 ghost use Prim.Native.Nat.{_+_, _-_, _*_, _%_, _≤_, _<_};
 ghost use lib.ListN.{length, getD, take, drop};
-ghost use Rattle.eqtrace_answers.specs.Text.{decimal, spaced, refuses};
+ghost use Rattle.eqtrace_answers.specs.Text.{decimal, spaced};
 ghost use Rattle.eqtrace_answers.specs.Puts.{Puts, DigitsShow, meant, Says, Small};
 
 // What the program says of one order; the cited names stand beside it.
@@ -178,22 +178,5 @@ pub fn say<'a>(out: &mut [u8], answer: Answer, names: &'a [u16], n: usize) -> us
         Answer::Apart => line(out, b"apart", names, 0),
         Answer::Refused(k) => line_with(out, b"refused", k as u32, names, n),
         Answer::Unreadable(i) => line_pair(out, b"refused", 16, i),
-    }
-}
-
-// Whether a reply refuses, whatever names it cites.
-pub fn is_refusal(answer: Answer) -> bool
-    ensures { λ r. ⌜ r ≡ refuses (meant answer []) ⌝ }
-{
-    match answer {
-        Answer::Node(_) => false,
-        Answer::Held(_) => false,
-        Answer::Gone(_) => false,
-        Answer::Same => false,
-        Answer::Below => false,
-        Answer::Above => false,
-        Answer::Apart => false,
-        Answer::Refused(_) => true,
-        Answer::Unreadable(_) => true,
     }
 }

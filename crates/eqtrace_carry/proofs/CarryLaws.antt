@@ -31,10 +31,11 @@ use Rattle.unifier.specs.declared.Comparison.{Comparison}
 use Rattle.unifier.specs.declared.Comparison.the-variants as stands
 use Rattle.eqtrace_orders.specs.Grammar.{Order}
 use Rattle.eqtrace_orders.specs.Grammar as order
-use Rattle.eqtrace_answers.specs.Text.{Output, refused, refuses}
+use Rattle.eqtrace_answers.specs.Text.{Output, refused}
 use Rattle.eqtrace_answers.specs.Puts.{meant, Says}
 use Rattle.eqtrace_answers.specs.declared.Answer.{Answer as Code}
-use Rattle.eqtrace_answers.specs.declared.Answer.the-variants as says
+use Rattle.eqtrace_script.specs.Script.{refuses}
+use Rattle.eqtrace_script.proofs.ScriptLaws.{refuses-meant}
 use Rattle.eqtrace_carry.specs.Carried.{plainly, Spoken, Stated, Called, Offered, Does, Carries}
 use Rattle.eqtrace_carry.specs.Inner.{replyLines, comparisonLines, answered, comparisonAnswered, Means, CitesIn, Telling, Replying}
 use Rattle.eqtrace_carry.specs.declared.Carried.{Carried}
@@ -46,18 +47,6 @@ means-reply x a b r e h = rw e h
 
 pub means-comparison : (a b : Comparison) (r : Code) → a ≡ b → Means (comparisonAnswered b) r → Means (comparisonAnswered a) r
 means-comparison a b r e h = rw e h
-
--- names don't make a refusal
-refuses-meant : (a : Code) (ns : List ℕ) → refuses (meant a []) ≡ refuses (meant a ns)
-refuses-meant (says.Node i) ns = refl
-refuses-meant (says.Held n) ns = refl
-refuses-meant (says.Gone n) ns = refl
-refuses-meant says.Same ns = refl
-refuses-meant says.Below ns = refl
-refuses-meant says.Above ns = refl
-refuses-meant says.Apart ns = refl
-refuses-meant (says.Refused k) ns = refl
-refuses-meant (says.Unreadable i) ns = refl
 
 -- ---- cited names
 

@@ -27,7 +27,8 @@ use Rattle.unifier.specs.declared.Comparison.{Comparison}
 use Rattle.unifier.specs.declared.Comparison.the-variants as stands
 use Rattle.eqtrace_orders.specs.Grammar.{Order}
 use Rattle.eqtrace_orders.specs.Grammar as order
-use Rattle.eqtrace_answers.specs.Text.{Output, node, held, gone, same, below, above, apart, refused, unreadable, refuses}
+use Rattle.eqtrace_answers.specs.Text.{Output, node, held, gone, same, below, above, apart, refused, unreadable}
+use Rattle.eqtrace_script.specs.Script.{refuses}
 use Rattle.eqtrace_answers.specs.Puts.{Says}
 use Rattle.eqtrace_carry.specs.declared.Carried.{Carried}
 

@@ -15,7 +15,8 @@ use Rattle.unifier.specs.declared.Reply.{Reply}
 use Rattle.unifier.specs.declared.Reply.the-variants.{Node, Held, Gone, Refused, Clash, Cycle}
 use Rattle.unifier.specs.declared.Comparison.{Comparison}
 use Rattle.unifier.specs.declared.Comparison.the-variants as stands
-use Rattle.eqtrace_answers.specs.Text.{Output, node, held, gone, same, below, above, apart, refused, refuses}
+use Rattle.eqtrace_answers.specs.Text.{Output, node, held, gone, same, below, above, apart, refused}
+use Rattle.eqtrace_script.specs.Script.{refuses}
 use Rattle.eqtrace_answers.specs.Puts.{meant, Small, Says}
 use Rattle.eqtrace_answers.specs.declared.Answer.{Answer as Code}
 use Rattle.unifier.specs.declared.Outcome.{Outcome}

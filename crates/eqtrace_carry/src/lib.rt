@@ -103,7 +103,7 @@ fn tell<'a>(
     requires { ⌜ Small answer × (8 * n ≤ length (now proof)) × (n ≤ lineLimit) × (length (now names) ≡ lineLimit) × (answerRoom ≤ length (now out)) ⌝ }
     ensures { λ r. ⌜ Telling w answer n (now (proof .entry)) (now (out .entry)) (now (out .exit)) r ⌝ }
 {
-    let refused = eqtrace_answers::is_refusal(answer);
+    let refused = eqtrace_script::is_refusal(answer);
     let k = cite(proof, n, names);
     let length = eqtrace_answers::say(out, answer, names, k);
     Carried {

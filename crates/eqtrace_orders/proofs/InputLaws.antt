@@ -44,16 +44,13 @@ module _ (l : List ℕ) (at : ℕ) where
 
 -- ---- the orders
 
-first-is-taken : (l : List ℕ) → take (length (firstLine l)) l ≡ firstLine l
+pub first-is-taken : (l : List ℕ) → take (length (firstLine l)) l ≡ firstLine l
 first-is-taken [] = refl
 first-is-taken (x ∷ xs) = go (eqb x 10) (first-is-taken xs)
   where
     go : (b : Bool) → take (length (firstLine xs)) xs ≡ firstLine xs → take (length (cond b [] (x ∷ firstLine xs))) (x ∷ xs) ≡ cond b [] (x ∷ firstLine xs)
     go true e = refl
     go false e = ap (λ (r : List ℕ). x ∷ r) e
-
-pub first-line : (input : List ℕ) (end : ℕ) → EndsAt input 0 end → take (end - 0) input ≡ firstLine input
-first-line input end e = let k : end - 0 ≡ length (firstLine input) = omega (arith, e .end-at) in ap (λ (n : ℕ). take n input) k ∙ first-is-taken input
 
 pub orders-none : ordersIn [] ≡ []
 unfolding ordersIn

@@ -9,7 +9,7 @@ use lib.ListN.{length, getD, take, drop}
 use lib.Dec.{eqb, ltb}
 use borrow.Author.Tests.{ne-eqb, eqb-true, lt-ltb}
 use Rattle.graph.specs.Lines.{try}
-use Rattle.eqtrace_orders.specs.Grammar.{Order, onFirst, split, numberOf, numbersOf, byLetter, wordsAs, orderOf, isKeep}
+use Rattle.eqtrace_orders.specs.Grammar.{Order, onFirst, split, numberOf, numbersOf, byLetter, wordsAs, orderOf}
 use Rattle.eqtrace_orders.specs.Scan.{firstWord, Collected, CollectedOr, Collects}
 use Rattle.eqtrace_orders.specs.Parse.{firstFive, Gives, Parses, ByLetter}
 use Rattle.eqtrace_orders.specs.declared.Numbers.{Numbers}
@@ -222,26 +222,3 @@ module _ (l : List ℕ) (n : 2 ≤ length l) (e : getD l 1 0 ≡ 32) (r : Number
       let f = found (numbersOf (split 32 (drop 2 l))) r h k in
       let z : orderOf l ≡ byLetter (getD l 0 0) (f .ns) = spaced-line l n e ∙ ap (λ (o : Option (List ℕ)). try o (byLetter (getD l 0 0))) (f .is) in
       rw z (q (f .ns) (f .holds))
-
--- ---- the line `K`
-
-pub keep-one : (line : List ℕ) → length line ≡ 1 → eqb (getD line 0 0) 75 ≡ isKeep line
-keep-one [] e = absurd (omega (arith, e))
-keep-one (x ∷ []) e = refl
-keep-one (x ∷ (y ∷ ys)) e = absurd (omega (arith, e))
-
-pub keep-else : (line : List ℕ) → (length line ≡ 1 → ⊥) → false ≡ isKeep line
-keep-else [] n = refl
-keep-else (x ∷ []) n = absurd (n refl)
-keep-else (x ∷ (y ∷ ys)) n = refl
-
-pub keep-length : (line : List ℕ) → isKeep line ≡ true → length line ≡ 1
-keep-length [] e = zero-is-one cc
-keep-length (x ∷ []) e = refl
-keep-length (x ∷ (y ∷ ys)) e = zero-is-one cc
-
-pub keep-unreadable : (line : List ℕ) → isKeep line ≡ true → orderOf line ≡ none
-unfolding orderOf
-keep-unreadable [] e = zero-is-one cc
-keep-unreadable (x ∷ []) e = rw (eqb-true x 75 e)
-keep-unreadable (x ∷ (y ∷ ys)) e = zero-is-one cc

@@ -3,9 +3,8 @@
 --   split      bytes cut at each occurrence of one byte: orders at 10, words at 32
 --   numberOf   a word as a number; none where it isn't one
 --   orderOf    a line's bytes as an order; none where it can't be read (refusal 16)
---   isKeep     the line `K`, which is no order of this grammar: first in an input it keeps the program going after refusals (document 02 (a))
 --   ordersIn   the lines of an input: only byte 10 breaks a line, and a final line break may be missing
-use mathlib.Core.Bool.{Bool, false, _&&_, cond}
+use mathlib.Core.Bool.{Bool, _&&_, cond}
 use mathlib.Core.List.{List, [], _∷_}
 use mathlib.Core.Option.{Option, none, some}
 use Prim.Native.Nat.{ℕ, _+_, _-_, _*_}
@@ -96,11 +95,6 @@ wordsAs ((x ∷ (y ∷ ys)) ∷ ws) = none
 
 unfoldable pub orderOf : List ℕ → Option Order
 orderOf line = wordsAs (split 32 line)
-
-abbrev pub isKeep : List ℕ → Bool
-isKeep [] = false
-isKeep (x ∷ []) = eqb x 75
-isKeep (x ∷ (y ∷ ys)) = false
 
 -- ---- lines
 

@@ -4,7 +4,7 @@ ghost use mathlib.Core.Bool.{true, cond};
 ghost use lib.Dec.{ltb};
 ghost use Prim.Native.Nat.{_-_, _≤_};
 ghost use lib.ListN.{length, drop};
-ghost use Rattle.eqtrace_orders.specs.Grammar.{isDigit, isKeep};
+ghost use Rattle.eqtrace_orders.specs.Grammar.{isDigit};
 ghost use Rattle.eqtrace_orders.specs.Scan.{Scans, inWord, IsNumber, KeepsOne, Collects};
 ghost use Rattle.eqtrace_orders.specs.Parse.{Parses, ByLetter};
 
@@ -250,14 +250,4 @@ pub fn parse(line: &[u8]) -> Parsed
         return by_letter(x, ns);
     }
     plain(Command::Unreadable)
-}
-
-// The line `K`, which `parse` can't read: it counts only as an input's first.
-pub fn is_keep(line: &[u8]) -> bool
-    ensures { λ r. ⌜ r ≡ isKeep (now (line .entry)) ⌝ }
-{
-    if line.len() == 1 {
-        return line[0] == b'K';
-    }
-    false
 }

@@ -7,7 +7,8 @@ use native.Mathlib.Omega.{arith}
 use lib.ListN.{length}
 use lib.Dec.{ltb, leb}
 use borrow.Author.Tests.{le-leb, lt-leb, leb-true, leb-false, le-ltb, lt-ltb, ltb-true, ltb-false}
-use Rattle.eqtrace_session.specs.Transcript.{inputLimit, tooLong}
+use Rattle.eqtrace_script.specs.Script.{inputLimit}
+use Rattle.eqtrace_session.specs.Transcript.{tooLong}
 use Rattle.eqtrace_session.specs.Steps.{leftOf}
 use Rattle.eqtrace_session.specs.declared.Left.{Left}
 use Rattle.eqtrace_session.specs.declared.Left.the-variants as left

@@ -21,9 +21,10 @@ use Rattle.unifier.specs.declared.Comparison.the-variants as stands
 use Rattle.unifier.proofs.PackedLaws.{repacked, packed-lists, fresh-valid, fresh-state}
 use Rattle.eqtrace_orders.specs.Grammar.{Order, orderOf}
 use Rattle.eqtrace_orders.specs.Grammar as order
-use Rattle.eqtrace_answers.specs.Text.{Output, node, held, gone, same, below, above, apart, refused, unreadable, refuses}
+use Rattle.eqtrace_answers.specs.Text.{Output, node, held, gone, same, below, above, apart, refused, unreadable}
+use Rattle.eqtrace_script.specs.Script.{refuses, leftAfter}
 use Rattle.eqtrace_carry.specs.Carried.{plainly, Spoken, Stated, Does}
-use Rattle.eqtrace_session.specs.Program.{forget, spoken, Calls, QueryReplies, BookAnswers, goesOn, leftAfter, BookAnswersAll, Session, Orders}
+use Rattle.eqtrace_session.specs.Program.{forget, spoken, Calls, QueryReplies, BookAnswers, BookAnswersAll, Session, Orders}
 use Rattle.eqtrace_session.specs.Program as told
 
 -- ---- one order
@@ -97,6 +98,7 @@ module _ (w : Workspace) (ok : Valid w) (i : ℕ) where
 
 -- ---- a list of orders
 
+-- a refusal is one without its names
 refuses-forget : (a : Output) → refuses (forget a) ≡ refuses a
 refuses-forget (node i) = refl
 refuses-forget (held n) = refl

@@ -10,13 +10,12 @@ use lib.Seq.{take-append-seam}
 use Rattle.graph.specs.Limits.{bufferBytes}
 use Rattle.unifier.specs.Views.{freshWorkspace}
 use Rattle.unifier.specs.declared.Workspace.{Workspace}
-use Rattle.eqtrace_orders.specs.Grammar.{isKeep}
 use Rattle.eqtrace_orders.specs.Input.{firstLine, EndsAt}
-use Rattle.eqtrace_orders.proofs.InputLaws.{first-line}
-use Rattle.eqtrace_answers.specs.Text.{Output, unreadable, wordOf, textOf, refuses}
+use Rattle.eqtrace_answers.specs.Text.{Output, unreadable, wordOf, textOf}
 use Rattle.eqtrace_answers.specs.Puts.{Puts, Says, answerRoom}
-use Rattle.eqtrace_session.specs.Program.{goesOn}
-use Rattle.eqtrace_session.specs.Steps.{cursorAt, beginning, leftOf, TooLong, nextPlace, StepsBy, Steps}
+use Rattle.eqtrace_script.specs.Script.{refuses, nextPlace, isKeep}
+use Rattle.eqtrace_script.proofs.ScriptLaws.{first-line, place-on}
+use Rattle.eqtrace_session.specs.Steps.{cursorAt, beginning, leftOf, TooLong, StepsBy, Steps}
 use Rattle.eqtrace_carry.specs.Carried.{Carries}
 use Rattle.eqtrace_carry.specs.declared.Carried.{Carried}
 use Rattle.eqtrace_session.specs.declared.Cursor.{Cursor}
@@ -64,14 +63,6 @@ steps-at c input before after old new r l e s p t = record { step = rw (← e) s
 
 text-some : (a : Output) → 1 ≤ length (textOf a)
 text-some a = omega (arith, length-append (wordOf a) (10 ∷ []))
-
--- the next place lies behind the order's, whether it is the next line's or the end
-pub place-on : (keep : Bool) (a : Output) (at end size : ℕ) → at ≤ end → at < size → at < nextPlace keep a end size
-place-on keep a at end size h l = go (goesOn keep a)
-  where
-    go : (b : Bool) → at < cond b (end + 1) size
-    go true = omega arith
-    go false = l
 
 -- a text was said, and the cursor moved on
 record Moves (c : Cursor) (input old new : List ℕ) (r : Stepped) : Type 0 where

@@ -1,5 +1,5 @@
 -- The book's answers to a list of orders and to an input are unique, and so are its two lists after them; the two ways to answer a list.
-use mathlib.Core.Path.{_≡_, refl, sym, ap, ap₂, _∙_, subst}
+use mathlib.Core.Path.{_≡_, refl, sym, ap, ap₂, _∙_}
 use mathlib.Core.Bool.{Bool, true, false, _||_, not, cond}
 use mathlib.Core.List.{List, [], _∷_, _++_}
 use mathlib.Core.Option.{Option, none, some}
@@ -11,9 +11,10 @@ use Rattle.graph.proofs.BookLaws.{answer-unique}
 use Rattle.unifier.specs.Compare.{refusalOf}
 use Rattle.eqtrace_orders.specs.Grammar.{Order, orderOf}
 use Rattle.eqtrace_orders.specs.Grammar as order
-use Rattle.eqtrace_orders.proofs.ParseLaws.{keep-unreadable}
-use Rattle.eqtrace_answers.specs.Text.{Output, refuses}
-use Rattle.eqtrace_session.specs.Program.{spoken, Calls, Stance, is-same, lies-below, lies-above, is-apart, QueryReplies, BookAnswers, leftAfter, BookAnswersAll, over, next, toRefusal, someRefuses, TwoWays}
+use Rattle.eqtrace_answers.specs.Text.{Output}
+use Rattle.eqtrace_script.specs.Script.{refuses, leftAfter, toRefusal, someRefuses}
+use Rattle.eqtrace_script.proofs.ScriptLaws.{keep-unreadable}
+use Rattle.eqtrace_session.specs.Program.{spoken, Calls, Stance, is-same, lies-below, lies-above, is-apart, QueryReplies, BookAnswers, BookAnswersAll, over, next, TwoWays}
 use Rattle.eqtrace_session.specs.Transcript.{tooLong, ToldBy, Told}
 use Rattle.base.proofs.AbsurdLaws.{zero-is-one}
 
@@ -58,9 +59,8 @@ pub tells-all-unique : {keep : Bool} {s d e : State} {i : ℕ} {lines : List (Li
 tells-all-unique over over = (refl, refl)
 tells-all-unique {keep} (next {s} {d} {i = i} {line = line} {lines = lines} {a = a} {answers = xs} h r) (next {d = f} {e = e} {a = b} {answers = ys} k t) =
     let z = tells-unique s i (orderOf line) a b d f h k in
-    let q : BookAnswersAll keep d (i + 1) (leftAfter keep b lines) ys e = subst (λ (x : State). BookAnswersAll keep x (i + 1) (leftAfter keep b lines) ys e) (sym (z .1)) t in
-    let p : BookAnswersAll keep d (i + 1) (leftAfter keep a lines) ys e = subst (λ (x : Output). BookAnswersAll keep d (i + 1) (leftAfter keep x lines) ys e) (sym (z .0)) q in
-    let y = tells-all-unique r p in
+    let q : BookAnswersAll keep d (i + 1) (leftAfter keep a lines) ys e = rw (z .0, z .1) t in
+    let y = tells-all-unique r q in
     (ap₂ (λ (x : Output) (l : List Output). x ∷ l) (z .0) (y .0), y .1)
 
 -- an input has one list of answers, cited names aside, and leads to one state
@@ -73,7 +73,6 @@ told-unique input xs ys d e = go (tooLong input)
 
 -- ---- the two ways
 
--- no orders, no answers
 none-told : {keep : Bool} {s d : State} {i : ℕ} {lines : List (List ℕ)} {xs : List Output} → lines ≡ [] → BookAnswersAll keep s i lines xs d → xs ≡ []
 none-told e over = refl
 none-told e (next h r) = zero-is-one cc

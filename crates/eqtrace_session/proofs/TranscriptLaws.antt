@@ -12,16 +12,17 @@ use Rattle.unifier.specs.declared.Workspace.{Workspace}
 use Rattle.unifier.proofs.PackedLaws.{fresh-valid, fresh-packed}
 use Rattle.graph.specs.Limits.{bufferBytes}
 use Rattle.graph.specs.State.{State, emptyState}
-use Rattle.eqtrace_orders.specs.Grammar.{ordersIn, isKeep}
+use Rattle.eqtrace_orders.specs.Grammar.{ordersIn}
 use Rattle.eqtrace_orders.specs.Input.{firstLine}
 use Rattle.eqtrace_orders.proofs.InputLaws.{orders-none, orders-some, orders-at, orders-end}
-use Rattle.eqtrace_orders.proofs.ParseLaws.{keep-length}
 use Rattle.eqtrace_answers.specs.Text.{Output, unreadable, textOf}
 use Rattle.eqtrace_answers.specs.Puts.{Says}
-use Rattle.eqtrace_session.specs.Program.{forget, goesOn, leftAfter, Session, scriptOf}
+use Rattle.eqtrace_script.specs.Script.{inputLimit, goesOn, leftAfter, nextPlace, isKeep, scriptOf}
+use Rattle.eqtrace_script.proofs.ScriptLaws.{keep-length, place-on}
+use Rattle.eqtrace_session.specs.Program.{forget, Session}
 use Rattle.eqtrace_session.specs.Program as told
-use Rattle.eqtrace_session.specs.Transcript.{textsOf, scriptIn, inputLimit, tooLong, AnswersBy, AnswersTo, ToldBy, Printed, Finished}
-use Rattle.eqtrace_session.specs.Steps.{cursorAt, beginning, leftOf, TooLong, nextPlace, StepsBy, Steps, Run, begun, stepped, Transcript}
+use Rattle.eqtrace_session.specs.Transcript.{textsOf, scriptIn, tooLong, AnswersBy, AnswersTo, ToldBy, Printed, Finished}
+use Rattle.eqtrace_session.specs.Steps.{cursorAt, beginning, leftOf, TooLong, StepsBy, Steps, Run, begun, stepped, Transcript}
 use Rattle.eqtrace_session.specs.declared.Cursor.{Cursor}
 use Rattle.eqtrace_session.specs.declared.Left.{Left}
 use Rattle.eqtrace_session.specs.declared.Left.the-variants as left
@@ -29,7 +30,7 @@ use Rattle.eqtrace_session.specs.declared.Stepped.{Stepped}
 use Rattle.eqtrace_session.proofs.LeftLaws.{left-nothing, left-over, within}
 use Rattle.eqtrace_session.proofs.SessionLaws.{faithful}
 use Rattle.eqtrace_session.proofs.TellsLaws.{told-unique}
-use Rattle.eqtrace_session.proofs.StepLaws.{text-is, place-on, seen}
+use Rattle.eqtrace_session.proofs.StepLaws.{text-is, seen}
 use Rattle.base.proofs.AbsurdLaws.{zero-is-one}
 
 -- ---- the answers that are still to come

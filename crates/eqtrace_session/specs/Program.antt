@@ -1,21 +1,15 @@
--- The book's answer to an order and to a list of orders, cited names aside, and the claims about every list of orders. There are two ways to
--- answer a list (document 02 (a)): to its end, or to the first refusal.
+-- The book's answer to an order and to a list of orders, cited names aside, and the claims about every list of orders.
 --   forget           an answer without its names
 --   spoken           the book's reply to a call, as an answer
 --   Stance           how two nodes stand in the closure of the book's equations, by what is said of the same, below, above and apart
 --   BookAnswers      the book's answer to an order and its two lists afterwards; an order that can't be read, and a query, leave them
---   goesOn           whether the next order is answered: always in the way that keeps going, else not after a refusal
---   leftAfter        the orders that are left after an answer
---   BookAnswersAll   the book's answers to a list of orders, counted from i
+--   BookAnswersAll   the same for a list of orders, counted from i, in one of the two ways
 --   Session          what carrying out a list of orders may give: each order's contract and nothing else
---   Script           orders to answer, the way, and the first one's number
---   scriptOf         an input's lines as a script: a first line `K` is order 1, has no answer, and says to keep going
 --   FollowsBook      the answers are the book's, and the workspace has its two lists, with zero in unused places
 --   Orders           the claim: so it is for every script
---   toRefusal        answers up to the first refusal, and with it; someRefuses: there is one
---   TwoWays          the claim about the two ways
+--   TwoWays          the claim about the two ways: to the end, or to the first refusal (document 02 (a))
 use mathlib.Core.Path.{_≡_}
-use mathlib.Core.Bool.{Bool, true, false, _||_, not, cond}
+use mathlib.Core.Bool.{Bool, true, false}
 use mathlib.Core.List.{List, [], _∷_, _++_, map}
 use mathlib.Core.Option.{Option, none, some}
 use Prim.Native.Nat.{ℕ, _+_}
@@ -27,9 +21,10 @@ use Rattle.graph.specs.Book as book
 use Rattle.unifier.specs.Views.{Valid, packed, freshWorkspace}
 use Rattle.unifier.specs.Compare.{refusalOf}
 use Rattle.unifier.specs.declared.Workspace.{Workspace}
-use Rattle.eqtrace_orders.specs.Grammar.{Order, orderOf, isKeep}
+use Rattle.eqtrace_orders.specs.Grammar.{Order, orderOf}
 use Rattle.eqtrace_orders.specs.Grammar as order
-use Rattle.eqtrace_answers.specs.Text.{Output, node, held, gone, same, below, above, apart, refused, unreadable, refuses}
+use Rattle.eqtrace_answers.specs.Text.{Output, node, held, gone, same, below, above, apart, refused, unreadable}
+use Rattle.eqtrace_script.specs.Script.{leftAfter, isKeep, Script, toRefusal, someRefuses}
 use Rattle.eqtrace_carry.specs.Carried.{Does}
 
 abbrev pub forget : Output → Output
@@ -75,12 +70,6 @@ BookAnswers s i (some (order.equate n u v)) a d = Calls s (book.equate (equation
 BookAnswers s i (some (order.withdraw n)) a d = Calls s (book.withdraw n) n a d
 BookAnswers s i (some (order.query u v)) a d = QueryReplies (refusalOf s u v bufferBytes) s u v a × (d ≡ s)
 
-abbrev pub goesOn : Bool → Output → Bool
-goesOn keep a = keep || not (refuses a)
-
-abbrev pub leftAfter : Bool → Output → List (List ℕ) → List (List ℕ)
-leftAfter keep a lines = cond (goesOn keep a) lines []
-
 pub data BookAnswersAll (keep : Bool) : State → ℕ → List (List ℕ) → List Output → State → Type 0 where
   over : {s : State} {i : ℕ} → BookAnswersAll keep s i [] [] s
   next : {s d e : State} {i : ℕ} {line : List ℕ} {lines : List (List ℕ)} {a : Output} {answers : List Output}
@@ -91,15 +80,6 @@ pub data Session (keep : Bool) : Workspace → ℕ → List (List ℕ) → List 
   next : {w v u : Workspace} {i : ℕ} {line : List ℕ} {lines : List (List ℕ)} {a : Output} {answers : List Output} (before after : List ℕ) → length before ≡ bufferBytes
       → Does w i (orderOf line) before after a v → Session keep v (i + 1) (leftAfter keep a lines) answers u → Session keep w i (line ∷ lines) (a ∷ answers) u
 
-pub record Script : Type 0 where
-  pub keep : Bool
-  pub first : ℕ
-  pub orders : List (List ℕ)
-
-abbrev pub scriptOf : List (List ℕ) → Script
-scriptOf [] = record { keep = false; first = 1; orders = [] }
-scriptOf (line ∷ lines) = cond (isKeep line) (record { keep = true; first = 2; orders = lines }) (record { keep = false; first = 1; orders = line ∷ lines })
-
 pub record FollowsBook (p : Script) (answers : List Output) (w : Workspace) : Type 0 where
   pub state : State
   pub told : BookAnswersAll (p .keep) emptyState (p .first) (p .orders) (map forget answers) state
@@ -108,14 +88,6 @@ pub record FollowsBook (p : Script) (answers : List Output) (w : Workspace) : Ty
 
 abbrev pub Orders : Type 0
 Orders = (p : Script) (answers : List Output) (w : Workspace) → Session (p .keep) freshWorkspace (p .first) (p .orders) answers w → FollowsBook p answers w
-
-abbrev pub toRefusal : List Output → List Output
-toRefusal [] = []
-toRefusal (a ∷ answers) = a ∷ cond (refuses a) [] (toRefusal answers)
-
-abbrev pub someRefuses : List Output → Bool
-someRefuses [] = false
-someRefuses (a ∷ answers) = refuses a || someRefuses answers
 
 pub record TwoWays : Type 0 where
   -- stopping says what keeping going says, up to the first refusal

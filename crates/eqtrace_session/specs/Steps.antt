@@ -1,7 +1,6 @@
 -- An input read by a cursor, order by order, and the claim about all steps of a cursor: what they print is what `Printed` says.
 --   beginning    where an input's script begins: behind a first line `K`, or at the first byte
 --   leftOf       what is left of an input at a place, with the number of the order there
---   nextPlace    where the cursor stands behind an order: at the next line, or where the input ends if the answer stops the program
 --   Steps        one step: the text at the start of the lent buffer `out`, and the cursor behind it. `before` and `after` are the proof buffer,
 --                `old` and `new` the one of the text
 --   Run          steps over an input from a cursor on: the bytes that they printed, and the cursor behind them
@@ -15,13 +14,14 @@ use lib.Dec.{ltb, leb}
 use Rattle.graph.specs.Limits.{bufferBytes}
 use Rattle.unifier.specs.Views.{freshWorkspace}
 use Rattle.unifier.specs.declared.Workspace.{Workspace}
-use Rattle.eqtrace_orders.specs.Grammar.{orderOf, isKeep}
+use Rattle.eqtrace_orders.specs.Grammar.{orderOf}
 use Rattle.eqtrace_orders.specs.Input.{firstLine, EndsAt}
-use Rattle.eqtrace_answers.specs.Text.{Output, unreadable}
+use Rattle.eqtrace_answers.specs.Text.{unreadable}
 use Rattle.eqtrace_answers.specs.Puts.{Says, answerRoom}
+use Rattle.eqtrace_script.specs.Script.{inputLimit, nextPlace, isKeep}
 use Rattle.eqtrace_carry.specs.Carried.{Carries}
-use Rattle.eqtrace_session.specs.Program.{forget, goesOn}
-use Rattle.eqtrace_session.specs.Transcript.{inputLimit, tooLong, Printed}
+use Rattle.eqtrace_session.specs.Program.{forget}
+use Rattle.eqtrace_session.specs.Transcript.{tooLong, Printed}
 use Rattle.eqtrace_carry.specs.declared.Carried.{Carried}
 use Rattle.eqtrace_session.specs.declared.Cursor.{Cursor}
 use Rattle.eqtrace_session.specs.declared.Left.{Left}
@@ -41,10 +41,6 @@ leftOf input at i = cond (leb (length input) at) left.Nothing (cond (ltb inputLi
 pub record TooLong (keep : Bool) (w : Workspace) (end i : ℕ) (old new : List ℕ) (r : Stepped) : Type 0 where
   pub says : Says (unreadable 0) old new (r .length)
   pub cursor : r .cursor ≡ cursorAt keep w end i
-
--- end is the order's, size the input's
-abbrev pub nextPlace : Bool → Output → ℕ → ℕ → ℕ
-nextPlace keep a end size = cond (goesOn keep a) (end + 1) size
 
 pub record OrderAt (keep : Bool) (w : Workspace) (input : List ℕ) (at i : ℕ) (before after old new : List ℕ) (r : Stepped) : Type 0 where
   pub end : ℕ

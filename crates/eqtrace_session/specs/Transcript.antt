@@ -1,5 +1,4 @@
 -- What the program prints for an input (document 01, "The program `eqtrace`"; document 02 (a)), from the input's bytes.
---   inputLimit  65,536
 --   textsOf     the answers' texts, one after the other
 --   scriptIn    the script that an input is
 --   AnswersTo   the answers to an input and the workspace after it: those to its script, from the fresh workspace on, each order by its
@@ -19,7 +18,8 @@ use Rattle.unifier.specs.Views.{Valid, packed, freshWorkspace}
 use Rattle.unifier.specs.declared.Workspace.{Workspace}
 use Rattle.eqtrace_orders.specs.Grammar.{ordersIn}
 use Rattle.eqtrace_answers.specs.Text.{Output, unreadable, textOf}
-use Rattle.eqtrace_session.specs.Program.{forget, BookAnswersAll, Session, Script, scriptOf}
+use Rattle.eqtrace_script.specs.Script.{inputLimit, Script, scriptOf}
+use Rattle.eqtrace_session.specs.Program.{forget, BookAnswersAll, Session}
 
 abbrev pub textsOf : List Output → List ℕ
 textsOf [] = []
@@ -27,10 +27,6 @@ textsOf (a ∷ answers) = textOf a ++ textsOf answers
 
 abbrev pub scriptIn : List ℕ → Script
 scriptIn input = scriptOf (ordersIn input)
-
--- bytes of an input, and so as many orders
-abbrev pub inputLimit : ℕ
-inputLimit = 65536
 
 abbrev pub tooLong : List ℕ → Bool
 tooLong input = ltb inputLimit (length input)

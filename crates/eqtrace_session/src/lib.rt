@@ -1,12 +1,10 @@
 // An input's orders carried out, one after the other: `begin`, then `step` until nothing is left. The buffers are those of `eqtrace_carry`.
 ghost use mathlib.Core.Path.{_≡_};
-ghost use mathlib.Core.Bool.{_||_, not, cond};
-ghost use Prim.Native.Nat.{_+_, _≤_, _<_};
+ghost use Prim.Native.Nat.{_≤_, _<_};
 ghost use lib.ListN.{length};
 ghost use Rattle.graph.specs.Limits.{lineLimit, bufferBytes};
-ghost use Rattle.eqtrace_orders.specs.Input.{EndsAt};
 ghost use Rattle.eqtrace_answers.specs.Puts.{answerRoom};
-ghost use Rattle.eqtrace_session.specs.Transcript.{inputLimit};
+ghost use Rattle.eqtrace_script.specs.Script.{inputLimit};
 ghost use Rattle.eqtrace_session.specs.Steps.{beginning, leftOf, OrderAt, TooLong, Steps};
 use unifier::Workspace;
 
@@ -58,28 +56,13 @@ fn left_at(input: &[u8], at: usize, i: u32) -> Left
     Left::Order
 }
 
-// Where the order that begins at `at` ends: at the next line break, or where the input ends.
-fn line_end(input: &[u8], at: usize) -> usize
-    requires { ⌜ at ≤ length (now input) ⌝ }
-    ensures { λ r. ⌜ EndsAt (now (input .entry)) at r ⌝ }
-{
-    let mut i = at;
-    while i < input.len() {
-        if input[i] == 10 {
-            return i;
-        }
-        i += 1;
-    }
-    i
-}
-
 // Where an input's first order to answer begins: behind a first line `K`, which is order 1 and keeps going, or at the first byte.
 pub fn begin(input: &[u8]) -> Cursor
     ensures { λ r. ⌜ r ≡ beginning (now (input .entry)) ⌝ }
 {
     let w = Workspace::fresh();
-    let e = line_end(input, 0);
-    if eqtrace_orders::is_keep(&input[0..e]) {
+    let e = eqtrace_script::line_end(input, 0);
+    if eqtrace_script::is_keep(&input[0..e]) {
         return Cursor {
             keep: true,
             workspace: w,
@@ -120,14 +103,6 @@ fn too_long(
     }
 }
 
-// Where to go on behind an order that ends at `end`, in an input of `size` bytes. This is the place that decides whether to go on at all.
-fn next_place(keep: bool, refused: bool, end: usize, size: usize) -> usize
-    requires { ⌜ end ≤ inputLimit ⌝ }
-    ensures { λ r. ⌜ r ≡ cond (keep || not refused) (end + 1) size ⌝ }
-{
-    if keep | !refused { end + 1 } else { size }
-}
-
 // The order at `at`, and the cursor behind it.
 fn order_at<'a>(
     keep: bool,
@@ -142,10 +117,10 @@ fn order_at<'a>(
     requires { ⌜ (at < length (now input)) × (length (now input) ≤ inputLimit) × (i ≤ inputLimit) × (length (now proof) ≡ bufferBytes) × (length (now names) ≡ lineLimit) × (answerRoom ≤ length (now out)) ⌝ }
     ensures { λ r. ⌜ OrderAt keep w (now (input .entry)) at i (now (proof .entry)) (now (proof .exit)) (now (out .entry)) (now (out .exit)) r ⌝ }
 {
-    let e = line_end(input, at);
+    let e = eqtrace_script::line_end(input, at);
     let carried = eqtrace_carry::carry_out(w, &input[at..e], i, proof, names, out);
     let after = carried.workspace;
-    let next = next_place(keep, carried.refused, e, input.len());
+    let next = eqtrace_script::next_place(keep, carried.refused, e, input.len());
     Stepped {
         cursor: Cursor {
             keep: keep,

@@ -1,7 +1,7 @@
--- `eqtrace_session::next_place` meets its contract.
+-- `eqtrace_script::next_place` meets its contract.
 use borrow.Author.Needs.{needs}
-use Rattle.eqtrace_session.proofs.next_place.Statement.{statement}
-use Rattle.eqtrace_session.proofs.next_place.Tie as tie
+use Rattle.eqtrace_script.proofs.next_place.Statement.{statement}
+use Rattle.eqtrace_script.proofs.next_place.Tie as tie
 
 returns : tie.Need-returns
 returns c = rw (c .if1 .taken)

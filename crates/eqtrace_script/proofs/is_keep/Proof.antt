@@ -1,8 +1,8 @@
--- `eqtrace_orders::is_keep` meets its contract.
+-- `eqtrace_script::is_keep` meets its contract.
 use borrow.Author.Needs.{needs}
-use Rattle.eqtrace_orders.proofs.ParseLaws.{keep-one, keep-else}
-use Rattle.eqtrace_orders.proofs.is_keep.Statement.{statement}
-use Rattle.eqtrace_orders.proofs.is_keep.Tie as tie
+use Rattle.eqtrace_script.proofs.ScriptLaws.{keep-one, keep-else}
+use Rattle.eqtrace_script.proofs.is_keep.Statement.{statement}
+use Rattle.eqtrace_script.proofs.is_keep.Tie as tie
 
 returns : tie.Need-returns
 returns c = keep-one (c .before .before .args .line .now) (c .before .if1 .taken)

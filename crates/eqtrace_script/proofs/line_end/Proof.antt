@@ -1,11 +1,11 @@
--- `eqtrace_session::line_end` meets its contract.
+-- `eqtrace_script::line_end` meets its contract.
 use Prim.Native.Nat.{_-_}
 use lib.ListN.{length}
 use Rattle.eqtrace_orders.proofs.InputLaws.{Seeking, seeking-none, seeking-break, seeking-more, seeking-all}
 use native.Mathlib.Omega.{arith}
 use borrow.Author.Needs.{needs}
-use Rattle.eqtrace_session.proofs.line_end.Statement.{statement}
-use Rattle.eqtrace_session.proofs.line_end.Tie as tie
+use Rattle.eqtrace_script.proofs.line_end.Statement.{statement}
+use Rattle.eqtrace_script.proofs.line_end.Tie as tie
 
 abbrev Inv-loop : tie.InvT-loop
 Inv-loop input at i₀ i = Seeking input at i

@@ -1,0 +1,2 @@
+-- Laws of scripts.
+pub mod ScriptLaws

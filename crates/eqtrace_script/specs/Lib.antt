@@ -1,0 +1,2 @@
+-- An input as a script.
+pub mod Script
