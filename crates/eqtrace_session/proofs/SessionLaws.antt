@@ -132,6 +132,6 @@ module _ (keep : Bool) where
 
 -- for every script, and so for that of every input
 pub faithful : Orders
-faithful p answers w run =
-    let r : All (p .keep) emptyState (p .first) (p .orders) answers w = subst (λ (s : State). All (p .keep) s (p .first) (p .orders) answers w) fresh-state (all (p .keep) fresh-valid run) in
+faithful script answers w run =
+    let r : All (script .keep) emptyState (script .first) (script .orders) answers w = subst (λ (s : State). All (script .keep) s (script .first) (script .orders) answers w) fresh-state (all (script .keep) fresh-valid run) in
     record { state = r .state; told = r .told; workspace = r .workspace; valid = r .valid }

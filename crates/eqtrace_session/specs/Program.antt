@@ -80,14 +80,14 @@ pub data Session (keep : Bool) : Workspace → ℕ → List (List ℕ) → List 
   next : {w v u : Workspace} {i : ℕ} {line : List ℕ} {lines : List (List ℕ)} {a : Output} {answers : List Output} (before after : List ℕ) → length before ≡ bufferBytes
       → Does w i (orderOf line) before after a v → Session keep v (i + 1) (leftAfter keep a lines) answers u → Session keep w i (line ∷ lines) (a ∷ answers) u
 
-pub record FollowsBook (p : Script) (answers : List Output) (w : Workspace) : Type 0 where
+pub record FollowsBook (script : Script) (answers : List Output) (w : Workspace) : Type 0 where
   pub state : State
-  pub told : BookAnswersAll (p .keep) emptyState (p .first) (p .orders) (map forget answers) state
+  pub told : BookAnswersAll (script .keep) emptyState (script .first) (script .orders) (map forget answers) state
   pub workspace : w ≡ packed state
   pub valid : Valid w
 
 abbrev pub Orders : Type 0
-Orders = (p : Script) (answers : List Output) (w : Workspace) → Session (p .keep) freshWorkspace (p .first) (p .orders) answers w → FollowsBook p answers w
+Orders = (script : Script) (answers : List Output) (w : Workspace) → Session (script .keep) freshWorkspace (script .first) (script .orders) answers w → FollowsBook script answers w
 
 pub record TwoWays : Type 0 where
   -- stopping says what keeping going says, up to the first refusal

@@ -31,6 +31,7 @@ use Rattle.eqtrace_session.specs.declared.Stepped.{Stepped}
 abbrev pub cursorAt : Bool → Workspace → ℕ → ℕ → Cursor
 cursorAt keep w at i = record { keep = keep; workspace = w; at = at; number = i }
 
+-- `K` and its line break are two bytes
 abbrev pub beginning : List ℕ → Cursor
 beginning input = cond (isKeep (firstLine input)) (cursorAt true freshWorkspace 2 2) (cursorAt false freshWorkspace 0 1)
 

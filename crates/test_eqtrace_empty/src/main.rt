@@ -1,4 +1,0 @@
-// An empty input.
-fn main() {
-    eqtrace_console::run();
-}
