@@ -11,7 +11,6 @@ use borrow.Author.Tests.{eqb-true}
 use Rattle.eqtrace_orders.specs.Grammar.{orderOf}
 use Rattle.eqtrace_orders.specs.Input.{firstLine, EndsAt}
 use Rattle.eqtrace_orders.proofs.InputLaws.{first-is-taken}
-use Rattle.eqtrace_answers.specs.Text.{Output}
 use Rattle.eqtrace_answers.specs.Puts.{meant}
 use Rattle.eqtrace_answers.specs.declared.Answer.{Answer as Code}
 use Rattle.eqtrace_answers.specs.declared.Answer.the-variants as says
@@ -53,9 +52,13 @@ refuses-meant says.Apart ns = refl
 refuses-meant (says.Refused k) ns = refl
 refuses-meant (says.Unreadable i) ns = refl
 
+-- an answer by its kind
+pub refuses-is : (a b : Code) (r : Bool) → a ≡ b → r ≡ refuses (meant b []) → r ≡ refuses (meant a [])
+refuses-is a b r e h = rw e h
+
 -- the next place lies behind the order's, whether it is the next line's or the end
-pub place-on : (keep : Bool) (a : Output) (at end size : ℕ) → at ≤ end → at < size → at < nextPlace keep a end size
-place-on keep a at end size h l = go (goesOn keep a)
+pub place-on : (keep refusal : Bool) (at end size : ℕ) → at ≤ end → at < size → at < nextPlace keep refusal end size
+place-on keep refusal at end size h l = go (goesOn keep refusal)
   where
     go : (b : Bool) → at < cond b (end + 1) size
     go true = omega arith

@@ -30,15 +30,15 @@ refuses apart = false
 refuses (refused k ns) = true
 refuses (unreadable i) = true
 
-abbrev pub goesOn : Bool → Output → Bool
-goesOn keep a = keep || not (refuses a)
+abbrev pub goesOn : Bool → Bool → Bool
+goesOn keep refusal = keep || not refusal
 
 abbrev pub leftAfter : Bool → Output → List (List ℕ) → List (List ℕ)
-leftAfter keep a lines = cond (goesOn keep a) lines []
+leftAfter keep a lines = cond (goesOn keep (refuses a)) lines []
 
 -- end is the order's, size the input's
-abbrev pub nextPlace : Bool → Output → ℕ → ℕ → ℕ
-nextPlace keep a end size = cond (goesOn keep a) (end + 1) size
+abbrev pub nextPlace : Bool → Bool → ℕ → ℕ → ℕ
+nextPlace keep refusal end size = cond (goesOn keep refusal) (end + 1) size
 
 abbrev pub isKeep : List ℕ → Bool
 isKeep [] = false

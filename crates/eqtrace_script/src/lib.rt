@@ -1,12 +1,11 @@
 // An input as a script: where a line ends, the line `K`, which answers refuse, and where to go on.
 ghost use mathlib.Core.Path.{_≡_};
-ghost use mathlib.Core.Bool.{_||_, not, cond};
 ghost use mathlib.Core.List.{[]};
-ghost use Prim.Native.Nat.{_+_, _≤_};
+ghost use Prim.Native.Nat.{_≤_};
 ghost use lib.ListN.{length};
 ghost use Rattle.eqtrace_orders.specs.Input.{EndsAt};
 ghost use Rattle.eqtrace_answers.specs.Puts.{meant};
-ghost use Rattle.eqtrace_script.specs.Script.{inputLimit, refuses, isKeep};
+ghost use Rattle.eqtrace_script.specs.Script.{inputLimit, refuses, nextPlace, isKeep};
 use eqtrace_answers::Answer;
 
 // Where the order that begins at `at` ends: at the next line break, or where the input ends.
@@ -54,7 +53,7 @@ pub fn is_refusal(answer: Answer) -> bool
 // Where to go on behind an order that ends at `end`, in an input of `size` bytes. This is the place that decides whether to go on at all.
 pub fn next_place(keep: bool, refused: bool, end: usize, size: usize) -> usize
     requires { ⌜ end ≤ inputLimit ⌝ }
-    ensures { λ r. ⌜ r ≡ cond (keep || not refused) (end + 1) size ⌝ }
+    ensures { λ r. ⌜ r ≡ nextPlace keep refused end size ⌝ }
 {
     if keep | !refused { end + 1 } else { size }
 }

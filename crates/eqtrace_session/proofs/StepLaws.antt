@@ -1,6 +1,6 @@
 -- One step of a cursor: the code's, and as the program's loop sees it.
 use mathlib.Core.Path.{_≡_, refl, sym, ap, _∙_, subst}
-use mathlib.Core.Bool.{Bool, true, false, _||_, not, cond}
+use mathlib.Core.Bool.{Bool, true, false, cond}
 use mathlib.Core.List.{List, [], _∷_}
 use mathlib.Core.Option.{none}
 use Prim.Native.Nat.{ℕ, _+_, _-_, _≤_, _<_}
@@ -42,8 +42,8 @@ cursor-begun input end w e f keep k =
     let q : isKeep (firstLine input) ≡ keep = ap isKeep (sym (first-line input end e)) ∙ k in
     rw (f, q)
 
-pub cursor-next : (keep : Bool) (a : Output) (w : Workspace) (end size i at : ℕ) (refused : Bool) → refused ≡ refuses a → at ≡ cond (keep || not refused) (end + 1) size
-    → cursorAt keep w at i ≡ cursorAt keep w (nextPlace keep a end size) i
+pub cursor-next : (keep : Bool) (a : Output) (w : Workspace) (end size i at : ℕ) (refused : Bool) → refused ≡ refuses a → at ≡ nextPlace keep refused end size
+    → cursorAt keep w at i ≡ cursorAt keep w (nextPlace keep (refuses a) end size) i
 cursor-next keep a w end size i at refused f e = rw (e, f)
 
 -- ---- the code's steps
@@ -83,7 +83,7 @@ module _ (c : Cursor) (input before after old new : List ℕ) (r : Stepped) wher
         answer = s .carries .answer;
         says = subst (λ (k : ℕ). Says (s .carries .answer) old new k) (sym (s .length-is)) (s .carries .says);
         inside = b .inside;
-        on = omega (arith, place-on (c .keep) (s .carries .answer) (c .at) (s .end) (length input) (omega (arith, s .ends .end-at)) (b .inside), ap (λ (d : Cursor). d .at) (s .cursor));
+        on = omega (arith, place-on (c .keep) (refuses (s .carries .answer)) (c .at) (s .end) (length input) (omega (arith, s .ends .end-at)) (b .inside), ap (λ (d : Cursor). d .at) (s .cursor));
       }
 
   -- a step without a text leaves nothing; any other moves on

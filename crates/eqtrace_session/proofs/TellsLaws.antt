@@ -99,4 +99,4 @@ rest more (next {d = d} {e = v} {i = i} {lines = lines} {a = a} {answers = xs} h
     go false r k q = k q
 
 pub two-ways : TwoWays
-two-ways = record { cut = λ p q. cut q p; rest = rest; keep = keep-unreadable }
+two-ways = record { cut = λ p q. cut q p; rest = rest; elsewhere = keep-unreadable }

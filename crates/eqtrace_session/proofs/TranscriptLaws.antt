@@ -17,7 +17,7 @@ use Rattle.eqtrace_orders.specs.Input.{firstLine}
 use Rattle.eqtrace_orders.proofs.InputLaws.{orders-none, orders-some, orders-at, orders-end}
 use Rattle.eqtrace_answers.specs.Text.{Output, unreadable, textOf}
 use Rattle.eqtrace_answers.specs.Puts.{Says}
-use Rattle.eqtrace_script.specs.Script.{inputLimit, goesOn, leftAfter, nextPlace, isKeep, scriptOf}
+use Rattle.eqtrace_script.specs.Script.{inputLimit, refuses, goesOn, leftAfter, nextPlace, isKeep, scriptOf}
 use Rattle.eqtrace_script.proofs.ScriptLaws.{keep-length, place-on}
 use Rattle.eqtrace_session.specs.Program.{forget, Session}
 use Rattle.eqtrace_session.specs.Program as told
@@ -97,15 +97,15 @@ module _ (b : Cursor) (input output : List ℕ) (c : Cursor) (R : Reached b inpu
       let w′ : Workspace = s .carried .workspace in
       let line : List ℕ = take (s .end - c .at) (drop (c .at) input) in
       let a : Output = s .carries .answer in
-      let next : ℕ = nextPlace (c .keep) a (s .end) (length input) in
-      let on : c .at < next = place-on (c .keep) a (c .at) (s .end) (length input) (omega (arith, s .ends .end-at)) (at .inside) in
+      let next : ℕ = nextPlace (c .keep) (refuses a) (s .end) (length input) in
+      let on : c .at < next = place-on (c .keep) (refuses a) (c .at) (s .end) (length input) (omega (arith, s .ends .end-at)) (at .inside) in
       let placed : c .number + 1 ≤ next + 1 = omega (arith, R .placed, on) in
       let o : ordersIn (drop (c .at) input) ≡ line ∷ ordersIn (drop (s .end + 1) input) = orders-at input (c .at) (s .end) (at .inside) (s .ends) in
       more-answer a (cursorAt (c .keep) w′ next (c .number + 1)) (s .cursor) (subst (λ (k : ℕ). Says a old new k) (sym (s .length-is)) (s .carries .says)) placed
       (λ answers w h.
       let g : Session (c .keep) w′ (c .number + 1) (ordersIn (drop next input)) answers w = rest-orders w′ next (c .number + 1) short placed answers w (leftOf input next (c .number + 1)) refl h in
       let k : Session (c .keep) w′ (c .number + 1) (leftAfter (c .keep) a (ordersIn (drop (s .end + 1) input))) answers w =
-      subst (λ (ls : List (List ℕ)). Session (c .keep) w′ (c .number + 1) ls answers w) (left-after (goesOn (c .keep) a) (s .end)) g in
+      subst (λ (ls : List (List ℕ)). Session (c .keep) w′ (c .number + 1) ls answers w) (left-after (goesOn (c .keep) (refuses a)) (s .end)) g in
       subst (λ (x : Left). RestBy x input c (a ∷ answers) w) (sym e) (rw o (told.next before after n (s .carries .does) k)))
     where
       rest-orders : (v : Workspace) (at i : ℕ) → length input ≤ inputLimit → i ≤ at + 1 → (answers : List Output) (w : Workspace) (l : Left) → leftOf input at i ≡ l

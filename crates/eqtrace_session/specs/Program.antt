@@ -96,4 +96,4 @@ pub record TwoWays : Type 0 where
   pub rest : {s d : State} {i : ℕ} {lines : List (List ℕ)} {xs : List Output} (more : List (List ℕ)) → BookAnswersAll false s i lines xs d → someRefuses xs ≡ true
       → BookAnswersAll false s i (lines ++ more) xs d
   -- `K` in any other place can't be read
-  pub keep : (line : List ℕ) → isKeep line ≡ true → orderOf line ≡ none
+  pub elsewhere : (line : List ℕ) → isKeep line ≡ true → orderOf line ≡ none

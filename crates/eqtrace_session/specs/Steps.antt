@@ -18,7 +18,7 @@ use Rattle.eqtrace_orders.specs.Grammar.{orderOf}
 use Rattle.eqtrace_orders.specs.Input.{firstLine, EndsAt}
 use Rattle.eqtrace_answers.specs.Text.{unreadable}
 use Rattle.eqtrace_answers.specs.Puts.{Says, answerRoom}
-use Rattle.eqtrace_script.specs.Script.{inputLimit, nextPlace, isKeep}
+use Rattle.eqtrace_script.specs.Script.{inputLimit, refuses, nextPlace, isKeep}
 use Rattle.eqtrace_carry.specs.Carried.{Carries}
 use Rattle.eqtrace_session.specs.Program.{forget}
 use Rattle.eqtrace_session.specs.Transcript.{tooLong, Printed}
@@ -49,7 +49,7 @@ pub record OrderAt (keep : Bool) (w : Workspace) (input : List ℕ) (at i : ℕ)
   pub carried : Carried
   pub carries : Carries w i (orderOf (take (end - at) (drop at input))) before after old new carried
   pub length-is : r .length ≡ carried .length
-  pub cursor : r .cursor ≡ cursorAt keep (carried .workspace) (nextPlace keep (carries .answer) end (length input)) (i + 1)
+  pub cursor : r .cursor ≡ cursorAt keep (carried .workspace) (nextPlace keep (refuses (carries .answer)) end (length input)) (i + 1)
 
 abbrev pub StepsBy : Left → Cursor → List ℕ → List ℕ → List ℕ → List ℕ → List ℕ → Stepped → Type 0
 StepsBy left.Nothing c input before after old new r = (r ≡ record { cursor = c; length = 0 }) × (after ≡ before) × (new ≡ old)
