@@ -77,7 +77,7 @@ fn tell(reply: Reply) -> Numbers {
         Reply::Below(n) => [5, n as u16, 0],
         Reply::Above(n) => [6, n as u16, 0],
         Reply::Apart => [7, 0, 0],
-        Reply::Class(low, size) => [8, low as u16, size as u16],
+        Reply::Class(number, size) => [8, number as u16, size as u16],
     }
 }
 

@@ -408,7 +408,7 @@ fn absorb(buf: &mut [u8], n: usize, nodes: usize, table: &Table, gone: u8, l: u1
     m
 }
 
-// Line l claims a same b: a line to the lower class number for each node of the higher.
+// Line l claims a same b: a line to the lower root for each node of the higher's class.
 fn rewire(buf: &mut [u8], n: usize, nodes: usize, table: &Table, l: u16, a: u8, b: u8, to: &mut [u16; 64]) -> usize {
     let i = to[a as usize];
     let j = to[b as usize];
@@ -464,7 +464,7 @@ fn trim(t: &Terms, e: &Equations, trace: &Trace, steps: usize, pairs: &[(u8, u8)
     (kept, m)
 }
 
-// The trace replayed: for each node, `to` has the number of a line that claims it same its class number.
+// The trace replayed: for each node, `to` has the number of a line that claims it same its root.
 fn replay(buf: &mut [u8], t: &Terms, e: &Equations, trace: &[u16], to: &mut [u16; 64]) -> usize {
     let nodes = t.count;
     for x in 0..nodes {
@@ -860,6 +860,17 @@ pub fn compare(w: &Workspace, u: u16, v: u16, buf: &mut [u8]) -> Reply {
     Reply::Apart
 }
 
+// The places that have x, one bit for each.
+fn places(bytes: &[u8; 64], x: u8) -> u64 {
+    let mut set = 0;
+    for (i, &b) in bytes.iter().enumerate() {
+        if b == x {
+            set |= 1 << i;
+        }
+    }
+    set
+}
+
 pub fn class_of(w: &Workspace, u: u16) -> Reply {
     let mut height = [0; 64];
     if !shaped(w) {
@@ -872,12 +883,8 @@ pub fn class_of(w: &Workspace, u: u16) -> Reply {
     if u as usize >= w.terms.count {
         return Reply::Refused(4, 0);
     }
-    let d = c.table[u as usize];
-    let mut members = 0u64;
-    for (i, &entry) in c.table.iter().enumerate() {
-        if entry == d {
-            members |= 1 << i;
-        }
-    }
-    Reply::Class(members.trailing_zeros() as u8, members.count_ones() as u8)
+    let all = places(&c.table, c.table[u as usize]);
+    let types = all & places(&w.terms.kind, 1);
+    let shown = if types == 0 { all } else { types };
+    Reply::Class(shown.trailing_zeros() as u8, all.count_ones() as u8)
 }

@@ -23,3 +23,7 @@ then-true false t e p = cc
 pub not-true : (t : Bool) → not t ≡ true → t ≡ true → ⊥
 not-true true e p = zero-is-one cc
 not-true false e p = zero-is-one cc
+
+pub not-false : (t : Bool) → (t ≡ true → ⊥) → t ≡ false
+not-false true h = absurd (h refl)
+not-false false h = refl

@@ -1,7 +1,7 @@
 -- Replies as numbers, for callers in other languages.
 --   told, ..       a reply as three numbers: 0 a refusal, its number and, with 8, 9 and 12, the count of proof
 --                  lines or the line; 1 a node; 2 held; 3 gone; 4 same, 5 below, 6 above, each with the count of proof lines;
---                  7 apart; 8 a class, its lowest node and size; 9 passed
+--                  7 apart; 8 a class, its number and size; 9 passed
 --   ByNumbers      what a call promises of its result, told by these numbers and the workspace
 use mathlib.Core.Path.{_≡_}
 use mathlib.Core.List.{List, [], _∷_}
@@ -35,7 +35,7 @@ toldComparison stands.Apart = toldOf 7 0 0
 toldComparison (stands.Refused k) = toldOf 0 k 0
 
 abbrev pub toldClass : ClassReply → List ℕ
-toldClass (class.Class low size) = toldOf 8 low size
+toldClass (class.Class number size) = toldOf 8 number size
 toldClass (class.Refused k) = toldOf 0 k 0
 
 abbrev pub toldCheck : CheckReply → List ℕ

@@ -53,7 +53,7 @@ fn tell_class(reply: ClassReply) -> [u16; 3]
     ensures { λ r. ⌜ r ≡ toldClass reply ⌝ }
 {
     match reply {
-        ClassReply::Class(low, size) => three(8, low as u16, size as u16),
+        ClassReply::Class(number, size) => three(8, number as u16, size as u16),
         ClassReply::Refused(k) => three(0, k as u16, 0),
     }
 }

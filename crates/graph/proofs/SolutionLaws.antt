@@ -8,7 +8,7 @@ use Rattle.graph.specs.Solution.{Classes, Solution}
 use Rattle.graph.specs.Verdict.{Verdict, clashes, cycles, solvable}
 use Rattle.graph.proofs.ClosureLaws.{same-known}
 
--- class numbers alone rule out a clash
+-- classes alone rule out a clash
 module _ (s : State) (C : Classes s) where
   pub same-class : {u v : ℕ} → Same s u v → C .class u ≡ C .class v
   same-class (equation {e} h) = C .equated e h

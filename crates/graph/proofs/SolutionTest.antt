@@ -66,11 +66,11 @@ lowerTest h s = each (childrenLower h) (s .nodes)
 abbrev endsTest : State → Bool
 endsTest s = each (λ j e. ltb (e .left) (length (s .nodes)) && ltb (e .right) (length (s .nodes))) (s .equations)
 
--- a list of class numbers, as `Classes` wants them
+-- a list of classes, as `Classes` wants them
 abbrev pub isClasses : State → List ℕ → Bool
 isClasses s cs = equatedTest (at cs) s && pairsTest (at cs) s
 
--- lists of class numbers and heights, as `Solution` wants them
+-- lists of classes and heights, as `Solution` wants them
 abbrev pub isSolution : State → List ℕ → List ℕ → Bool
 isSolution s cs hs = isClasses s cs && (levelTest (at cs) (at hs) s && lowerTest (at hs) s)
 

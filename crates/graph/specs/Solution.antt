@@ -1,5 +1,5 @@
 -- What solves a state (document 01, "Closure and solution": the finite solution of demand 3).
---   Classes    a class number for each node: equated nodes have one class; functor nodes of one class have the same label
+--   Classes    a number for each node, its class: equated nodes have one class; functor nodes of one class have the same label
 --              and, place by place, children of one class. It rules out a clash, where there need be no solution
 --   Solution   classes, and a height for each node: nodes of one class have the same height, a child's is less than its parent's
 use mathlib.Core.Path.{_≡_}

@@ -4,6 +4,7 @@
 --   State        document 01's book: the nodes in order of declaration, the held equations in the order taken
 --   IsNode       a known node
 --   NodeAt, ChildAt, Held   what stands at a place of a list
+--   FunctorAt    a functor node stands there
 --   nameHeld     a name is held
 --   SameLabel, sameLabel    what a label is, as a fact and as a test: a symbol together with a number of children
 --   EqualLabels  equal labels of two functor nodes
@@ -47,6 +48,9 @@ IsNode s u = u < length (s .nodes)
 -- node u of the state is n
 abbrev pub NodeAt : State → ℕ → Node → Type 0
 NodeAt s u n = getElem? (s .nodes) u ≡ some n
+
+abbrev pub FunctorAt : State → ℕ → Type 0
+FunctorAt s u = (f : ℕ) × (cs : List ℕ) × NodeAt s u (functor f cs)
 
 -- v is the child at place i, counted from 0, among the children cs
 abbrev pub ChildAt : List ℕ → ℕ → ℕ → Type 0

@@ -19,7 +19,7 @@ pub enum Finding {
     Cycle,
 }
 
-// Node u has the class `table[u]` and, where the verdict is Solved, the height of that class; the trace has `steps` entries.
+// Node u is in the class with root `table[u]` and has, where the verdict is Solved, the height of that class; the trace has `steps` entries.
 pub struct SolveResult {
     pub table: [u8; 64],
     pub heights: Heights,

@@ -5,9 +5,11 @@
 --   CountLaws    the number of classes, and of merges
 --   SetLaws      sets of numbers
 --   MemberLaws   a class's members
+--   ClassExamples  worked examples of the class reply
 pub mod TableLaws
 pub mod MapLaws
 pub mod MergeLaws
 pub mod CountLaws
 pub mod SetLaws
 pub mod MemberLaws
+pub mod ClassExamples

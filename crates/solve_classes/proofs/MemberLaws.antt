@@ -1,24 +1,29 @@
--- A class's members in a table and in a state: the lowest is the table's entry, the number is that of the nodes of one class;
--- of an exact table the two are what the class reply promises, and it promises one of each.
+-- A class's members in a table and in a state: how many there are, and which of them is the class number; of an exact table and the
+-- state's kinds the two are what the class reply promises, and it promises one of each.
 use mathlib.Core.Path.{_≡_, refl, sym, _∙_, ap}
 use mathlib.Core.Bool.{Bool, true, false, cond}
 use mathlib.Core.List.{List}
-use mathlib.Core.Logic.{⊎-elim}
+use mathlib.Core.Logic.{_⊎_, inl, inr, ⊎-elim}
 use Prim.Native.Nat.{ℕ, zero, suc, _+_, _≤_, _<_}
-use native.Mathlib.Nat.{eq-or-lt-of-le, le-antisymm, lt-of-not-le, le-of-suc-le-suc, not-suc-le-zero, zero-add}
+use native.Mathlib.Nat.{eq-or-lt-of-le, le-antisymm, lt-of-not-le, le-of-suc-le-suc, zero-add}
 use native.Mathlib.Numerals.{one-add}
 use native.Mathlib.Omega.{arith}
 use lib.ListN.{length}
-use lib.Dec.{eqb, leb}
-use lib.Count.{ones, trailingZeros}
-use borrow.Author.Tests.{eqb-true, eqb-false, eq-eqb, ne-eqb}
-use Rattle.graph.specs.State.{State, IsNode}
-use Rattle.graph.specs.Closure.{Same}
+use lib.Dec.{eqb, leb, ltb}
+use lib.Bits.{bitAnd}
+use lib.Count.{ones, trailingZeros, trailing-of-zero}
+use borrow.Author.Tests.{eqb-true, eqb-false, eq-eqb, ne-eqb, lt-ltb, le-ltb}
+use Rattle.base.proofs.AbsurdLaws.{true-is-false}
+use Rattle.base.proofs.BoolLaws.{and-left, and-right, and-both, not-false}
+use Rattle.base.proofs.CaseLaws.{below-or-from}
+use Rattle.base.proofs.ListLaws.{found-lt, lt-found}
+use Rattle.graph.specs.State.{Node, variable, functor, State, IsNode, FunctorAt, NodeAt}
+use Rattle.graph.specs.Closure.{Same, reflexivity}
 use Rattle.solve_classes.specs.Table.{class, Table, Fresh, Merged}
 use Rattle.solve_classes.specs.Exact.{Exact}
-use Rattle.solve_classes.specs.Members.{inClass, digit, setOf, sizeOf, lowestFrom, Lowest, Alone, CountOf, start, has, lacks, ClassOf}
+use Rattle.solve_classes.specs.Members.{inClass, functorKind, digit, setOf, sizeOf, lowestFrom, passBoth, numberOf, Lowest, Alone, CountOf, start, has, lacks, FunctorIn, VariableIn, ClassNumber, typed, untyped, ClassOf}
 use Rattle.solve_classes.proofs.MergeLaws.{cond-cases}
-use Rattle.solve_classes.proofs.SetLaws.{set-size, set-lowest-from}
+use Rattle.solve_classes.proofs.SetLaws.{set-size, set-empty, set-zeros, set-both, lowest-finds}
 
 -- ---- counting
 
@@ -52,34 +57,44 @@ size-short f n (suc m) l h =
     rw (e, zero-add) (size-short f n m (omega arith) (λ i a b. h i a (omega arith))))
     (eq-or-lt-of-le l)
 
-pub lowest-from : (f : ℕ → Bool) (r i n : ℕ) → Lowest f r → i ≤ r → r < i + n → lowestFrom f i n ≡ r
-unfolding lowestFrom
-lowest-from f r i zero w a b = absurd (omega arith)
-lowest-from f r i (suc n) w a b =
-    ⊎-elim
-    (λ e. let y : f i ≡ true = ap f e ∙ w .here in rw y e)
-    (λ l. let y : f i ≡ false = w .below i l in rw y (lowest-from f r (suc i) n w (omega arith) (omega arith)))
-    (eq-or-lt-of-le a)
+pub size-most : (f : ℕ → Bool) (n : ℕ) → sizeOf f n ≤ n
+unfolding sizeOf
+size-most f zero = omega arith
+size-most f (suc n) = omega (arith, one (f n), size-most f n)
+  where
+    one : (b : Bool) → digit b ≤ 1
+    one true = omega arith
+    one false = omega arith
 
--- ---- the set of a class, with the class that it was made for
+-- ---- members as 64-bit sets: a those that pass f, b those that pass g
 
-module _ (t : List ℕ) (c : ℕ) {d r : ℕ} (e : r ≡ setOf (inClass t d) 64) (q : d ≡ c) where
-  pub ones-size : ones r ≡ sizeOf (inClass t c) 64
-  ones-size = rw (e, q) (set-size (inClass t c) 64)
+pub ones-size : (f : ℕ → Bool) {a : ℕ} → a ≡ setOf f 64 → ones a ≡ sizeOf f 64
+ones-size f e = rw e (set-size f 64)
 
-  pub zeros-lowest : trailingZeros 64 r ≡ lowestFrom (inClass t c) 0 64
-  zeros-lowest = rw (e, q) (set-lowest-from (inClass t c) 64 0 64 refl (λ k u. absurd (not-suc-le-zero u)))
+module _ (f g : ℕ → Bool) {a b : ℕ} (e : a ≡ setOf f 64) (d : b ≡ setOf g 64) where
+  shared : bitAnd a b ≡ setOf (passBoth f g) 64
+  shared = rw (e, d) (set-both f g 64)
 
--- ---- a class of a table
+  -- where some number is in both sets the lowest of those, else the lowest of a
+  pub zeros-number : {r : ℕ} → ((bitAnd a b ≡ 0) × (r ≡ a)) ⊎ ((bitAnd a b ≡ 0 → ⊥) × (r ≡ bitAnd a b)) → trailingZeros 64 r ≡ numberOf f g
+  zeros-number (inl p) =
+      let z : lowestFrom (passBoth f g) 0 64 ≡ 64 = sym (set-zeros (passBoth f g) 64) ∙ ap (trailingZeros 64) (sym shared ∙ p .0) ∙ trailing-of-zero 64 in
+      rw (le-ltb (lowestFrom (passBoth f g) 0 64) 64 (omega (arith, z)), p .1, e) (set-zeros f 64)
+  zeros-number (inr p) =
+      ⊎-elim
+      (λ q. rw (lt-ltb (lowestFrom (passBoth f g) 0 64) 64 (q .0), p .1, shared) (set-zeros (passBoth f g) 64))
+      (λ q. absurd (p .0 (shared ∙ set-empty (passBoth f g) 64 (q .1))))
+      (lowest-finds (passBoth f g) 64)
 
-module _ (t : List ℕ) (T : Table t) (x : ℕ) (h : x < 64) where
-  class-is-lowest : Lowest (inClass t (class t x)) (class t x)
-  class-is-lowest =
-      record { here = eq-eqb _ _ (T .fixed x h); below = λ k l. ne-eqb (class t k) (class t x) (λ e. omega (arith, e, T .low x h, T .low k (omega (arith, T .low x h)))) }
+pub number-small : (f g : ℕ → Bool) → numberOf f g ≤ 64
+number-small f g = go (ltb (lowestFrom (passBoth f g) 0 64) 64)
+  where
+    small : (h : ℕ → Bool) → lowestFrom h 0 64 ≤ 64
+    small h = ⊎-elim (λ p. omega (arith, p .0)) (λ p. omega (arith, p .0)) (lowest-finds h 64)
 
-  -- a class's lowest member is its nodes' entry
-  pub lowest-class : lowestFrom (inClass t (class t x)) 0 64 ≡ class t x
-  lowest-class = lowest-from (inClass t (class t x)) (class t x) 0 64 class-is-lowest (omega arith) (omega (arith, T .low x h))
+    go : (b : Bool) → cond b (lowestFrom (passBoth f g) 0 64) (lowestFrom f 0 64) ≤ 64
+    go true = small (passBoth f g)
+    go false = small f
 
 -- ---- nodes that the state doesn't have
 
@@ -100,35 +115,79 @@ alone-merged n t r a b few T ha hb m A x l h =
     both true e d = e
     both false e d = d
 
--- ---- a class of a state
+-- ---- a class of a state: f tells its nodes, g the functor nodes
 
-module _ (s : State) (t : List ℕ) (u : ℕ) (T : Table t) (X : Exact s t) (few : length (s .nodes) ≤ 64) (A : Alone (length (s .nodes)) t) (k : IsNode s u) where
-  low : class t u ≤ u
-  low = T .low u (omega arith)
+module _ (s : State) (u : ℕ) (k : IsNode s u) (few : length (s .nodes) ≤ 64) (f g : ℕ → Bool)
+    (inside : (v : ℕ) → v < 64 → f v ≡ true → IsNode s v × Same s u v) (member : (v : ℕ) → Same s u v → f v ≡ true)
+    (typed-only : (v : ℕ) → IsNode s v → g v ≡ true → FunctorAt s v) (typed-all : (v : ℕ) → FunctorAt s v → g v ≡ true) where
+  outside : (v : ℕ) → length (s .nodes) ≤ v → v < 64 → f v ≡ false
+  outside v l h = not-false (f v) (λ e. omega (arith, inside v h e .0))
 
-  outside : (v : ℕ) → length (s .nodes) ≤ v → v < 64 → inClass t (class t u) v ≡ false
-  outside v l h = ne-eqb (class t v) (class t u) (λ e. omega (arith, A v l h, low, e))
+  count-by : CountOf (Same s u) (length (s .nodes)) (sizeOf f 64)
+  count-by =
+      rw (size-short f (length (s .nodes)) 64 few outside)
+      (count-test (Same s u) f (length (s .nodes)) (λ v l e. inside v (omega arith) e .1) (λ v l e p. true-is-false (sym (member v p) ∙ e)))
 
-  lowest-of : ClassOf s u (class t u) (sizeOf (inClass t (class t u)) 64)
-  lowest-of =
-      record {
-        known = omega (arith, low);
-        member = X .only u (class t u) k (omega (arith, low)) (sym (T .fixed u (omega arith)));
-        lowest = λ v l p. omega (arith, X .has p, T .low v (omega (arith, low)));
-        count =
-            rw (size-short (inClass t (class t u)) (length (s .nodes)) 64 few outside)
-            (count-test (Same s u) (inClass t (class t u)) (length (s .nodes))
-            (λ v l e. X .only u v k l (sym (eqb-true _ _ e)))
-            (λ v l e p. eqb-false _ _ e (sym (X .has p))));
-      }
+  functor-member : (v : ℕ) → FunctorIn s u v → passBoth f g v ≡ true
+  functor-member v p = and-both (f v) (g v) (member v (p .0)) (typed-all v (p .1))
 
-  -- `lowest` and `size` of the table's entry give what the class reply promises
-  pub class-of : ClassOf s u (lowestFrom (inClass t (class t u)) 0 64) (sizeOf (inClass t (class t u)) 64)
-  class-of = rw (lowest-class t T u (omega arith)) lowest-of
+  functor-inside : (v : ℕ) → v < 64 → passBoth f g v ≡ true → FunctorIn s u v
+  functor-inside v h e = let p = inside v h (and-left (f v) (g v) e) in (p .1, typed-only v (p .0) (and-right (f v) (g v) e))
 
--- it promises one lowest node and one size
-pub class-unique : {s : State} {u l m i j : ℕ} → ClassOf s u l i → ClassOf s u m j → (l ≡ m) × (i ≡ j)
-class-unique {s} {u} {l} {m} {i} {j} p q = (le-antisymm (atMost p q) (atMost q p), count-unique (p .count) (q .count))
+  -- in a class without functor nodes each node is a variable
+  variable-inside : ((v : ℕ) → FunctorIn s u v → ⊥) → (v : ℕ) → v < 64 → f v ≡ true → VariableIn s u v
+  variable-inside z v h e = let p = inside v h e in let n = lt-found (s .nodes) v (p .0) in (p .1, go (n .0) (n .1))
+    where
+      go : (n : Node) → NodeAt s v n → NodeAt s v variable
+      go variable q = q
+      go (functor x cs) q = absurd (z v (inside v h e .1, (x, cs, q)))
+
+  -- so its lowest node is its lowest variable
+  lowest-variable : ((v : ℕ) → FunctorIn s u v → ⊥) → ClassNumber s u (lowestFrom f 0 64)
+  lowest-variable z =
+      ⊎-elim
+      (λ p. untyped z (record { here = variable-inside z _ (p .0) (p .1 .here); below = λ v l q. p .1 .below v l (member v (q .0)) }))
+      (λ p. true-is-false (sym (member u (reflexivity k)) ∙ p .1 u (omega arith)))
+      (lowest-finds f 64)
+
+  number-by : ClassNumber s u (numberOf f g)
+  number-by =
+      ⊎-elim
+      (λ p. rw (lt-ltb (lowestFrom (passBoth f g) 0 64) 64 (p .0)) (typed (record { here = functor-inside _ (p .0) (p .1 .here); below = λ v l q. p .1 .below v l (functor-member v q) })))
+      (λ p. rw (le-ltb (lowestFrom (passBoth f g) 0 64) 64 (omega (arith, p .0))) (lowest-variable (λ v q. true-is-false (sym (functor-member v q) ∙ p .1 v (small v q)))))
+      (lowest-finds (passBoth f g) 64)
+    where
+      small : (v : ℕ) → FunctorIn s u v → v < 64
+      small v q = omega (arith, few, found-lt (s .nodes) v (functor (q .1 .0) (q .1 .1)) (q .1 .2))
+
+  pub class-by : ClassOf s u (numberOf f g) (sizeOf f 64)
+  class-by = record { shows = number-by; count = count-by }
+
+-- what `class_figures` gives of a known node's root is what the class reply promises
+module _ (s : State) (t : List ℕ) (u : ℕ) (T : Table t) (X : Exact s t) (few : length (s .nodes) ≤ 64) (A : Alone (length (s .nodes)) t) (k : IsNode s u)
+    (kind : List ℕ) (typed-only : (v : ℕ) → IsNode s v → functorKind kind v ≡ true → FunctorAt s v) (typed-all : (v : ℕ) → FunctorAt s v → functorKind kind v ≡ true) where
+  table-inside : (v : ℕ) → v < 64 → inClass t (class t u) v ≡ true → IsNode s v × Same s u v
+  table-inside v h e =
+      let n : IsNode s v = ⊎-elim (λ l. l) (λ l. absurd (omega (arith, A v l h, T .low u (omega arith), eqb-true (class t v) (class t u) e))) (below-or-from (length (s .nodes)) v) in
+      (n, X .only u v k n (sym (eqb-true (class t v) (class t u) e)))
+
+  pub class-of : ClassOf s u (numberOf (inClass t (class t u)) (functorKind kind)) (sizeOf (inClass t (class t u)) 64)
+  class-of = class-by s u k few (inClass t (class t u)) (functorKind kind) table-inside (λ v p. eq-eqb (class t v) (class t u) (sym (X .has p))) typed-only typed-all
+
+-- ---- the class reply promises one number and one size
+
+-- one number has P and no lower one
+lowest-unique : {P : ℕ → Type 0} {l m : ℕ} → Lowest P l → Lowest P m → l ≡ m
+lowest-unique {P} p q = le-antisymm (atMost p q) (atMost q p)
   where
-    atMost : {l m i j : ℕ} → ClassOf s u l i → ClassOf s u m j → l ≤ m
-    atMost {l} {m} p q = le-of-suc-le-suc (lt-of-not-le (λ h. p .lowest m h (q .member)))
+    atMost : {l m : ℕ} → Lowest P l → Lowest P m → l ≤ m
+    atMost {l} {m} p q = le-of-suc-le-suc (lt-of-not-le (λ h. p .below m h (q .here)))
+
+number-unique : {s : State} {u l m : ℕ} → ClassNumber s u l → ClassNumber s u m → l ≡ m
+number-unique (typed p) (typed q) = lowest-unique p q
+number-unique (typed p) (untyped z q) = absurd (z _ (p .here))
+number-unique (untyped z p) (typed q) = absurd (z _ (q .here))
+number-unique (untyped z p) (untyped y q) = lowest-unique p q
+
+pub class-unique : {s : State} {u l m i j : ℕ} → ClassOf s u l i → ClassOf s u m j → (l ≡ m) × (i ≡ j)
+class-unique p q = (number-unique (p .shows) (q .shows), count-unique (p .count) (q .count))

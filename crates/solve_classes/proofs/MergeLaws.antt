@@ -101,7 +101,7 @@ merge-flip t r a b l J m =
       from = λ x y hx hy j. m .from x y hx hy (flip t a b x y j);
     }
 
--- by class numbers
+-- by roots
 pub unite-up : (t r : List ℕ) (c d a b : ℕ) → Table t → a < 64 → b < 64 → c ≡ class t a → d ≡ class t b → c ≤ d → Relabelled t c d r → Merged t a b r
 unite-up t r c d a b T ha hb e f l J = merge t r a b ha hb T (rw (sym e, sym f) l) (rw (sym e, sym f) J)
 

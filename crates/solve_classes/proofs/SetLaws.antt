@@ -1,16 +1,18 @@
--- The number that a set of numbers is: made bit by bit, its ones are how many, its trailing zeros the lowest.
+-- The number that a set of numbers is: made bit by bit, its ones are how many, its trailing zeros the lowest; of two, what they share.
 use mathlib.Core.Path.{_≡_, refl, sym, ap, ap₂, _∙_}
-use mathlib.Core.Bool.{Bool, true, false, cond}
+use mathlib.Core.Bool.{Bool, true, false, _&&_, cond}
 use mathlib.Core.Logic.{_⊎_, inl, inr, ⊎-elim}
 use Prim.Native.Nat.{ℕ, zero, suc, _+_, _-_, _*_, _/_, _%_, _^_, _≤_, _<_}
 use native.Mathlib.Nat.{not-suc-le-zero, le-of-suc-le-suc, eq-or-lt-of-le, pow-suc, div-add-mod', zero-lt-suc}
 use native.Mathlib.Numerals.{add-one}
 use native.Mathlib.Omega.{arith}
-use lib.Bits.{bitOr, or-shifted-r, block-half, block-odd, shifted-half, shifted-even}
+use lib.Bits.{bitAnd, and-block, bitOr, or-shifted-r, block-half, block-odd, shifted-half, shifted-even}
 use lib.Pow.{shl-exact}
 use lib.Dec.{lit<}
 use lib.Count.{ones, ones-cat, trailingZeros, under, trailing-of-zero}
-use Rattle.solve_classes.specs.Members.{digit, setOf, sizeOf, Lowest, lowestFrom}
+use Rattle.base.proofs.AbsurdLaws.{true-is-false}
+use Rattle.base.proofs.BoolLaws.{not-false}
+use Rattle.solve_classes.specs.Members.{digit, setOf, sizeOf, passBoth, Lowest, lowestFrom}
 
 pub set-none : (f : ℕ → Bool) → setOf f 0 ≡ 0
 unfolding setOf
@@ -80,7 +82,7 @@ trailing-one (suc m) zero l = refl
 trailing-one (suc m) (suc k) l =
     ap₂ (λ (x y : ℕ). under x (trailingZeros m y)) (shifted-even 1 k) (shifted-half 1 k) ∙ ap suc (trailing-one m k (le-of-suc-le-suc l))
 
-set-empty : (f : ℕ → Bool) (n : ℕ) → ((k : ℕ) → k < n → f k ≡ false) → setOf f n ≡ 0
+pub set-empty : (f : ℕ → Bool) (n : ℕ) → ((k : ℕ) → k < n → f k ≡ false) → setOf f n ≡ 0
 unfolding setOf
 set-empty f zero h = refl
 set-empty f (suc n) h = let e : setOf f n ≡ 0 = set-empty f n (λ k l. h k (omega arith)) in rw (h n (omega arith)) (omega arith)
@@ -99,7 +101,7 @@ set-pos f (suc n) i l e = go (λ q. set-pos f n i q e) (eq-or-lt-of-le (le-of-su
     go rest (inr q) = let h : 0 < setOf f n = rest q in omega arith
 
 -- the trailing zeros are the lowest member
-pub set-lowest : (f : ℕ → Bool) (m n i : ℕ) → n ≤ m → i < n → Lowest f i → trailingZeros m (setOf f n) ≡ i
+pub set-lowest : (f : ℕ → Bool) (m n i : ℕ) → n ≤ m → i < n → Lowest (λ k. f k ≡ true) i → trailingZeros m (setOf f n) ≡ i
 unfolding setOf
 set-lowest f m zero i l h w = absurd (not-suc-le-zero h)
 set-lowest f m (suc n) i l h w = go (λ q. set-lowest f m n i (omega arith) q w) (eq-or-lt-of-le (le-of-suc-le-suc h))
@@ -107,23 +109,47 @@ set-lowest f m (suc n) i l h w = go (λ q. set-lowest f m n i (omega arith) q w)
     go : (i < n → trailingZeros m (setOf f n) ≡ i) → (i ≡ n) ⊎ (i < n) → trailingZeros m (digit (f n) * 2 ^ n + setOf f n) ≡ i
     go rest (inl q) =
         let e : f n ≡ true = ap f (sym q) ∙ w .here in
-        let z : setOf f n ≡ 0 = set-empty f n (λ k u. w .below k (omega arith)) in
+        let z : setOf f n ≡ 0 = set-empty f n (λ k u. not-false (f k) (w .below k (omega arith))) in
         let s : digit (f n) * 2 ^ n + setOf f n ≡ 1 * 2 ^ n = ap₂ (λ (b : Bool) (x : ℕ). digit b * 2 ^ n + x) e z ∙ omega arith in
         ap (trailingZeros m) s ∙ trailing-one m n (omega arith) ∙ sym q
     go rest (inr q) = trailing-low m n (digit (f n)) (setOf f n) (set-pos f n i q (w .here)) (set-lt f n) (omega arith) ∙ rest q
 
--- for every test, with members or without
-pub set-lowest-from : (f : ℕ → Bool) (m i n : ℕ) → i + n ≡ m → ((k : ℕ) → k < i → f k ≡ false) → trailingZeros m (setOf f m) ≡ lowestFrom f i n
+-- what `lowestFrom` finds is the lowest that passes, or none does
+abbrev pub Finds : (ℕ → Bool) → ℕ → ℕ → Type 0
+Finds f m r = ((r < m) × Lowest (λ k. f k ≡ true) r) ⊎ ((r ≡ m) × ((k : ℕ) → k < m → f k ≡ false))
+
+finds-from : (f : ℕ → Bool) (m i n : ℕ) → i + n ≡ m → ((k : ℕ) → k < i → f k ≡ false) → Finds f m (lowestFrom f i n)
 unfolding lowestFrom
-set-lowest-from f m i zero e h =
-    let q : i ≡ m = omega arith in
-    ap (trailingZeros m) (set-empty f m (λ k u. h k (omega arith))) ∙ trailing-of-zero m ∙ sym q
-set-lowest-from f m i (suc n) e h = go (f i) refl (set-lowest-from f m (suc i) n (omega arith))
+finds-from f m i zero e h = inr (omega arith, λ k l. h k (omega arith))
+finds-from f m i (suc n) e h = go (f i) refl (finds-from f m (suc i) n (omega arith))
   where
     next : f i ≡ false → (k : ℕ) → k < suc i → f k ≡ false
     next z k u = ⊎-elim (λ q. ap f q ∙ z) (λ q. h k q) (eq-or-lt-of-le (le-of-suc-le-suc u))
 
-    go : (b : Bool) → f i ≡ b → (((k : ℕ) → k < suc i → f k ≡ false) → trailingZeros m (setOf f m) ≡ lowestFrom f (suc i) n)
-        → trailingZeros m (setOf f m) ≡ cond b i (lowestFrom f (suc i) n)
-    go true z rest = set-lowest f m m i (omega arith) (omega arith) (record { here = z; below = h })
+    go : (b : Bool) → f i ≡ b → (((k : ℕ) → k < suc i → f k ≡ false) → Finds f m (lowestFrom f (suc i) n)) → Finds f m (cond b i (lowestFrom f (suc i) n))
+    go true z rest = inl (omega arith, record { here = z; below = λ k l y. true-is-false (sym y ∙ h k l) })
     go false z rest = rest (next z)
+
+pub lowest-finds : (f : ℕ → Bool) (m : ℕ) → Finds f m (lowestFrom f 0 m)
+lowest-finds f m = finds-from f m 0 m (omega arith) (λ k u. absurd (not-suc-le-zero u))
+
+-- for every test, with members or without
+pub set-zeros : (f : ℕ → Bool) (m : ℕ) → trailingZeros m (setOf f m) ≡ lowestFrom f 0 m
+set-zeros f m =
+    ⊎-elim
+    (λ p. set-lowest f m m (lowestFrom f 0 m) (omega arith) (p .0) (p .1))
+    (λ p. ap (trailingZeros m) (set-empty f m (p .1)) ∙ trailing-of-zero m ∙ sym (p .0))
+    (lowest-finds f m)
+
+-- what two sets share are those that pass both tests
+and-digit : (a b : Bool) → bitAnd (digit a) (digit b) ≡ digit (a && b)
+and-digit true true = refl
+and-digit true false = refl
+and-digit false b = refl
+
+pub set-both : (f g : ℕ → Bool) (n : ℕ) → bitAnd (setOf f n) (setOf g n) ≡ setOf (passBoth f g) n
+unfolding setOf
+set-both f g zero = refl
+set-both f g (suc n) =
+    and-block n (digit (f n)) (digit (g n)) (setOf f n) (setOf g n) (set-lt f n) (set-lt g n)
+    ∙ ap₂ (λ (x y : ℕ). x * 2 ^ n + y) (and-digit (f n) (g n)) (set-both f g n)

@@ -3,3 +3,4 @@ pub mod Table
 pub mod Exact
 pub mod Merges
 pub mod Members
+pub mod ClassExamples

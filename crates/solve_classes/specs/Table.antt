@@ -1,7 +1,8 @@
--- Class tables: 64 numbers, the entry of a node being the lowest node of its class.
---   class        the entry of a node: its class number
---   Table        each entry is the lowest node of its class
---   mergedClass  a node's entry once the classes of a and b are one, under the lower number
+-- Class tables: 64 numbers, the entry of a node being the root of its class, which is the lowest node in it. A root stands for a class
+-- inside one call; the class number of the reply is another (`ClassNumber` in specs/Members).
+--   class        the entry of a node
+--   Table        each entry is a root: the lowest node of its class
+--   mergedClass  a node's entry once the classes of a and b are one, under the lower root
 --   Merged       what a merge gives: exact entry by entry, and what it does to "in one class"
 --   memberAt     how many nodes a class has is a sum of these
 --   classCount   the number of classes, which falls with each merge of two classes

@@ -2,7 +2,7 @@
 ghost use mathlib.Core.Path.{_≡_};
 ghost use Prim.Native.Nat.{ℕ, _<_};
 ghost use Rattle.solve_classes.specs.Table.{class, Fresh, Relabelled, Table, Merged};
-ghost use Rattle.solve_classes.specs.Members.{inClass, setOf, sizeOf, lowestFrom};
+ghost use Rattle.solve_classes.specs.Members.{inClass, functorKind, setOf, sizeOf, numberOf};
 
 // Each node alone, to start.
 pub fn fresh() -> [u8; 64]
@@ -32,7 +32,7 @@ fn relabel(table: [u8; 64], keep: u8, gone: u8) -> [u8; 64]
     out
 }
 
-// Two classes become one, under the lower number.
+// Two classes become one, under the lower root.
 pub fn unite(table: [u8; 64], c: u8, d: u8) -> [u8; 64]
     requires { ⌜ Table table ⌝ }
     ensures { λ r. ⌜ ((a b : ℕ) → a < 64 → b < 64 → c ≡ class table a → d ≡ class table b → Merged table a b r) ⌝ }
@@ -44,7 +44,7 @@ pub fn unite(table: [u8; 64], c: u8, d: u8) -> [u8; 64]
     }
 }
 
-// The classes of `a` and `b` become one, under the lower number.
+// The classes of `a` and `b` become one, under the lower root.
 pub fn merge(table: [u8; 64], a: u8, b: u8) -> [u8; 64]
     requires { ⌜ Table table ⌝ }
     requires { ⌜ (a < 64) × (b < 64) ⌝ }
@@ -70,16 +70,24 @@ pub fn members(table: [u8; 64], c: u8) -> u64
     s
 }
 
-// How many nodes class `c` has.
-pub fn size(table: [u8; 64], c: u8) -> u32
-    ensures { λ r. ⌜ r ≡ sizeOf (inClass table c) 64 ⌝ }
-{
-    u64::count_ones(members(table, c))
+// A class's number and size, as the class reply has them.
+pub struct Figures {
+    pub number: u8,
+    pub size: u8,
 }
 
-// The lowest node of class `c`; 64 where it has none.
-pub fn lowest(table: [u8; 64], c: u8) -> u32
-    ensures { λ r. ⌜ r ≡ lowestFrom (inClass table c) 0 64 ⌝ }
+// Class `c`: its lowest functor node, or its lowest node where it has none, and how many nodes it has. A node's kind is 1 for a
+// functor node, so the nodes of that kind are the members of class 1 by kind.
+pub fn class_figures(table: [u8; 64], kind: [u8; 64], c: u8) -> Figures
+    ensures { λ r. ⌜ (r .number ≡ numberOf (inClass table c) (functorKind kind)) × (r .size ≡ sizeOf (inClass table c) 64) ⌝ }
 {
-    u64::trailing_zeros(members(table, c))
+    let all = members(table, c);
+    let mut shown = all & members(kind, 1);
+    if shown == 0 {
+        shown = all;
+    }
+    Figures {
+        number: u64::trailing_zeros(shown) as u8,
+        size: u64::count_ones(all) as u8,
+    }
 }

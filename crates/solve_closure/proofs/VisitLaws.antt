@@ -19,7 +19,7 @@ use Rattle.solve_closure.specs.Rounds.{Clashing, Agree, Meeting, Pair, n
 use Rattle.solve_trace.proofs.StepLaws.{extends-none, extends-more, extends-only}
 use Rattle.solve_trace.proofs.ReasonLaws.{by-place}
 
--- head has, for a class number, `noHead` or a functor node of that class
+-- head has, for a root, `noHead` or a functor node of that class
 pub record Heads (g : Terms) (t head : List ℕ) : Type 0 where
   pub size : length head ≡ 64
   pub functor : (i : ℕ) → i < 64 → getD head i 0 < noHead → IsFunctor g (getD head i 0)

@@ -87,7 +87,7 @@ fn visit(head: &mut [u8; 64], c: usize, u: usize, kind: u8) -> u8
     NO_HEAD
 }
 
-// One round, from the highest node down. A head is kept for each class number from here on.
+// One round, from the highest node down. A head is kept for each root from here on.
 fn round<'a>(
     table: [u8; 64],
     trace: &mut [u16; 64],

@@ -1,6 +1,6 @@
 -- Classes of known nodes.
 --   under    the class of a child
---   IsClass  c is the class number of a known node
+--   IsClass  c is the root of a known node's class
 use mathlib.Core.Path.{_≡_}
 use mathlib.Core.List.{List}
 use Prim.Native.Nat.{ℕ, _<_}

@@ -1,7 +1,7 @@
 -- Heights of classes, found by peeling: a class goes once every child of every functor node in it lies in a class that went before.
 -- Its height is the number of classes that went before it; while it is left it has none.
 --   noHeight  stands for the height of a class that has none
---   heightAt  the height of a class number
+--   heightAt  the height of the class with root c
 --   classes   how many classes the known nodes have
 --   left      how many of them are left
 --   Lower     heights rise from child to parent
@@ -24,7 +24,7 @@ use Rattle.solve_heights.specs.Nodes.{IsClass, under}
 abbrev pub noHeight : ℕ
 noHeight = 255
 
--- the height of a class number
+-- the height of the class with root c
 abbrev pub heightAt : List ℕ → ℕ → ℕ
 heightAt h c = getD h c 0
 

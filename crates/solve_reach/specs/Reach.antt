@@ -1,5 +1,5 @@
 -- Reachability: which classes lie strictly below a node u, and how each was reached.
--- For a class number d the arrays have: level d, 0 where d was not reached, else the number of steps down that were counted;
+-- For the root d of a class the arrays have: level d, 0 where d was not reached, else the number of steps down that were counted;
 -- parent d, a functor node; place d, counted from 1; child d, the parent's child there, a node of class d.
 --   Ways      what the arrays say of each other: from a reached class the way up goes on, at a lower level, to the class of u
 --   Edges     each reached class has a step down into it, in the state

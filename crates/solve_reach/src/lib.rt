@@ -13,7 +13,7 @@ ghost use Rattle.solve_reach.specs.Search.{Reached, Reaching, Entered, E
 ghost use mathlib.Core.Path.{_≡_};
 ghost use Rattle.store.specs.declared.Terms.{Terms};
 
-// How each class below a node was reached, by class number: the parent of the step down into it, the place, the child there, and a level
+// How each class below a node was reached, by its root: the parent of the step down into it, the place, the child there, and a level
 // that falls on the way up. Level 0: not reached.
 pub struct Search {
     pub parent: [u8; 64],

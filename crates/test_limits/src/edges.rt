@@ -32,7 +32,7 @@ fn told(what: &[u8], o: Outcome) -> Workspace {
 
 // 64 nodes, and one more
 
-fn declared(times: usize) -> Workspace {
+pub fn declared(times: usize) -> Workspace {
     let mut now = Workspace::fresh();
     let mut i: usize = 0;
     while i < times {

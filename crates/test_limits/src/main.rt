@@ -1,4 +1,5 @@
-// The unmarked examples of document 01, at its limits, and damaged workspaces.
+// The unmarked examples of document 01, at its limits, class numbers, and damaged workspaces.
+mod classes; // which node a class shows
 mod damaged; // workspaces with one bad field
 mod edges; // 64 nodes, 256 equations, 8,192 lines, 65,536 bytes
 
@@ -9,5 +10,6 @@ fn main() {
     edges::equations(&mut buf);
     edges::lines(&mut lines);
     edges::buffers(&mut buf);
+    classes::all(&mut buf);
     damaged::all(&mut buf);
 }

@@ -28,6 +28,9 @@ const AGREED: usize = 37;
 
 const MISMATCHES: usize = 38;
 
+// Classes whose number is a functor node above their lowest node.
+pub const SHOWN: usize = 39;
+
 // One comparison: counted as agreed or as a mismatch.
 pub fn expect(m: &mut [usize], ok: bool) {
     test_tools::expect(m, AGREED, MISMATCHES, ok);
@@ -44,6 +47,12 @@ fn place(code: usize) -> usize {
         return 12;
     }
     CLASSES
+}
+
+pub fn shown(m: &mut [usize], ok: bool) {
+    if ok {
+        add(m, SHOWN, 1);
+    }
 }
 
 // A call, by the reply that it owes.

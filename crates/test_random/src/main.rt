@@ -78,6 +78,11 @@ fn show(m: &[usize]) {
         m,
         counts::CALLS,
     );
+    print(
+        b"classes with a variable below their functor nodes: #\n",
+        m,
+        counts::SHOWN,
+    );
     print(b"same: #\nbelow: #\nabove: #\napart: #\n", m, counts::SAME);
     print(
         b"refused 2: #\nrefused 3: #\nrefused 4: #\nrefused 5: #\nrefused 6: #\nrefused 7: #\n",

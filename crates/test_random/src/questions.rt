@@ -104,7 +104,7 @@ pub fn pairs(w: Workspace, m: &mut [usize], proof: &mut [u8]) -> Workspace {
 
 fn class_owed(m: &[usize], u: usize) -> usize {
     if u < get(m, book::NODES) {
-        return replies::class_of(closure::lowest(m, u), closure::size(m, u));
+        return replies::class_of(closure::number(m, u), closure::size(m, u));
     }
     4
 }
@@ -127,6 +127,7 @@ pub fn classes(w: Workspace, m: &mut [usize]) -> Workspace {
         let next = class(now, m, u);
         now = next;
         counts::expect(m, workspaces::agrees(now, m));
+        counts::shown(m, closure::variable_first(m, u));
         u += 1;
     }
     now

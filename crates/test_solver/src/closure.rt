@@ -137,8 +137,26 @@ fn wide(x: u32) -> usize {
     x as usize
 }
 
-pub fn lowest(m: &[usize], u: usize) -> usize {
+fn lowest(m: &[usize], u: usize) -> usize {
     wide(usize::trailing_zeros(get(m, SAME | u)))
+}
+
+// The class number: the first functor node that is same as u, or else the lowest node.
+pub fn number(m: &[usize], u: usize) -> usize {
+    let class = get(m, SAME | u);
+    let mut v: usize = 0;
+    while v < 64 {
+        if has(class, v) & (get(m, book::KIND | v) == 1) {
+            return v;
+        }
+        v += 1;
+    }
+    lowest(m, u)
+}
+
+// Whether the class number is not the lowest node.
+pub fn variable_first(m: &[usize], u: usize) -> bool {
+    lowest(m, u) < number(m, u)
 }
 
 pub fn size(m: &[usize], u: usize) -> usize {

@@ -50,13 +50,13 @@ pub fn compared(r: Comparison) -> usize {
     }
 }
 
-pub fn class_of(low: usize, size: usize) -> usize {
-    CLASS | (low << 8) | size
+pub fn class_of(number: usize, size: usize) -> usize {
+    CLASS | (number << 8) | size
 }
 
 pub fn classified(r: ClassReply) -> usize {
     match r {
-        ClassReply::Class(low, size) => class_of(low as usize, size as usize),
+        ClassReply::Class(number, size) => class_of(number as usize, size as usize),
         ClassReply::Refused(k) => k as usize,
     }
 }

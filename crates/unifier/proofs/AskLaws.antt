@@ -43,8 +43,8 @@ module _ (w : Workspace) (u : ℕ) where
   pub class-unknown : Valid w → w .terms .count ≤ u → Classifies w u (classified (class.Refused 4) w)
   class-unknown ok h = record { refuses = λ bad. absurd (bad ok); replies = λ _. rw (nodes-length (w .terms), le-ltb u (w .terms .count) h) refl; workspace = refl }
 
-  pub class-told : Valid w → u < w .terms .count → (low size : ℕ) → ClassOf (stateOf w) u low size → Classifies w u (classified (class.Class low size) w)
-  class-told ok h low size c = record { refuses = λ bad. absurd (bad ok); replies = λ _. rw (nodes-length (w .terms), lt-ltb u (w .terms .count) h) c; workspace = refl }
+  pub class-told : Valid w → u < w .terms .count → (number size : ℕ) → ClassOf (stateOf w) u number size → Classifies w u (classified (class.Class number size) w)
+  class-told ok h number size c = record { refuses = λ bad. absurd (bad ok); replies = λ _. rw (nodes-length (w .terms), lt-ltb u (w .terms .count) h) c; workspace = refl }
 
 -- ---- check
 

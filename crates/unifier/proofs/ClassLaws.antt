@@ -1,13 +1,15 @@
--- The class reply, from the class table.
+-- The class reply, from the class table and the kinds.
 use mathlib.Core.Path.{_≡_}
-use mathlib.Core.Bool.{Bool, true, false}
+use mathlib.Core.Bool.{true}
 use mathlib.Core.List.{List}
-use Prim.Native.Nat.{ℕ, zero, suc, _≤_, _<_}
-use native.Mathlib.Omega.{arith}
+use Prim.Native.Nat.{ℕ, _<_}
+use borrow.Author.Tests.{eq-eqb, eqb-true}
+use Rattle.graph.specs.State.{IsNode, FunctorAt}
 use Rattle.solve_classes.specs.Table.{class}
-use Rattle.solve_classes.specs.Members.{inClass, digit, sizeOf, lowestFrom}
-use Rattle.solve_classes.proofs.MemberLaws.{lowest-class, class-of}
-use Rattle.store.proofs.ViewLaws.{nodes-length}
+use Rattle.solve_classes.specs.Members.{inClass, functorKind, sizeOf, numberOf}
+use Rattle.solve_classes.proofs.MemberLaws.{class-of}
+use Rattle.store.specs.Views.{symbolAt, childrenAt}
+use Rattle.store.proofs.ViewLaws.{nodes-length, functor-found, functor-known}
 use Rattle.unifier.specs.Views.{stateOf}
 use Rattle.unifier.specs.Replies.{classified}
 use Rattle.unifier.specs.Class.{Classifies}
@@ -16,31 +18,22 @@ use Rattle.unifier.specs.declared.Workspace.{Workspace}
 use Rattle.unifier.specs.declared.ClassReply.the-variants as class-reply
 use Rattle.unifier.proofs.AskLaws.{class-told}
 
-size-most : (f : ℕ → Bool) (n : ℕ) → sizeOf f n ≤ n
-unfolding sizeOf
-size-most f zero = omega arith
-size-most f (suc n) = omega (arith, one (f n), size-most f n)
-  where
-    one : (b : Bool) → digit b ≤ 1
-    one true = omega arith
-    one false = omega arith
+-- ---- the kinds say which nodes are functor nodes
 
-pub size-small : (t : List ℕ) (c size : ℕ) → size ≡ sizeOf (inClass t c) 64 → size ≤ 64
-size-small t c size e = omega (arith, size-most (inClass t c) 64)
+functor-only : (w : Workspace) (v : ℕ) → IsNode (stateOf w) v → functorKind (w .terms .kind) v ≡ true → FunctorAt (stateOf w) v
+functor-only w v n e = (symbolAt (w .terms) v, childrenAt (w .terms) v, functor-found (w .terms) v (rw (nodes-length (w .terms)) at n) (eqb-true _ _ e))
+
+functor-all : (w : Workspace) (v : ℕ) → FunctorAt (stateOf w) v → functorKind (w .terms .kind) v ≡ true
+functor-all w v F = eq-eqb _ _ (functor-known (w .terms) v (F .0) (F .1) (F .2) .1)
 
 module _ (w : Workspace) (t : List ℕ) (u : ℕ) (k : Classed w t) (h : u < w .terms .count) where
-  pub in-table : u < 64
-  in-table = omega (arith, k .valid .shape .terms .few)
-
-  pub low-small : (low : ℕ) → low ≡ lowestFrom (inClass t (class t u)) 0 64 → low < 64
-  low-small low e = omega (arith, lowest-class t (k .table) u in-table, k .table .low u in-table)
-
-  pub told : (low size : ℕ) → low ≡ lowestFrom (inClass t (class t u)) 0 64 → size ≡ sizeOf (inClass t (class t u)) 64
-      → Classifies w u (classified (class-reply.Class low size) w)
-  told low size p q =
-      class-told w u (k .valid) h low size
+  pub told : (number size : ℕ) → number ≡ numberOf (inClass t (class t u)) (functorKind (w .terms .kind)) → size ≡ sizeOf (inClass t (class t u)) 64
+      → Classifies w u (classified (class-reply.Class number size) w)
+  told number size p q =
+      class-told w u (k .valid) h number size
       (rw (p, q)
       (class-of (stateOf w) t u (k .table) (k .exact)
       (rw (nodes-length (w .terms)) (k .valid .shape .terms .few))
       (rw (nodes-length (w .terms)) (k .alone))
-      (rw (nodes-length (w .terms)) h)))
+      (rw (nodes-length (w .terms)) h)
+      (w .terms .kind) (functor-only w) (functor-all w)))

@@ -1,5 +1,5 @@
--- What class promises: refusals 1 and 4 in that order; else the lowest node number of the node's class and how many nodes it has,
--- both fixed by `ClassOf`. The workspace always comes back as it was.
+-- What class promises: refusals 1 and 4 in that order; else the number of the node's class and how many nodes it has, both fixed by
+-- `ClassOf`. The workspace always comes back as it was.
 use mathlib.Core.Path.{_≡_}
 use mathlib.Core.Bool.{Bool, true, false}
 use Prim.Native.Nat.{ℕ}
@@ -15,7 +15,7 @@ use Rattle.unifier.specs.declared.ClassReply.the-variants as says
 
 -- the class of a known node
 abbrev pub ClassIs : State → ℕ → ClassReply → Type 0
-ClassIs s u (says.Class low size) = ClassOf s u low size
+ClassIs s u (says.Class number size) = ClassOf s u number size
 ClassIs s u (says.Refused k) = ⊥
 
 -- whether the node is known

@@ -58,7 +58,7 @@ pub struct Compared {
     pub workspace: Workspace,
 }
 
-// The lowest node of a class, and how many nodes it has.
+// A class number, which is the class's lowest functor node or, where it has none, its lowest variable; and how many nodes the class has.
 pub enum ClassReply {
     Class(u8, u8),
     Refused(u8),
@@ -241,15 +241,15 @@ impl Workspace {
             return self.refuse_class(4);
         }
         let c = table[x];
-        let low = solve_classes::lowest(table, c);
-        let size = solve_classes::size(table, c);
+        let kind = self.terms.kind;
+        let k = solve_classes::class_figures(table, kind, c);
         Classified {
-            reply: ClassReply::Class(low as u8, size as u8),
+            reply: ClassReply::Class(k.number, k.size),
             workspace: self,
         }
     }
 
-    // The lowest node of the node's class and how many it has, or refusal 1 or 4.
+    // The number of the node's class and how many nodes it has, or refusal 1 or 4.
     pub fn class_of(self, u: u16) -> Classified
         ensures { λ r. ⌜ Classifies self u r ⌝ }
     {

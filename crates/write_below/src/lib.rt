@@ -1,5 +1,5 @@
 // Lines that end in u below v: from v back up to u, a step down at a time. For each node, `to` has the number of a line that
-// claims the node same its class number; `parent`, `place`, `into` and `level` say how each class was reached from u: see `solve_reach`.
+// claims the node same its root; `parent`, `place`, `into` and `level` say how each class was reached from u: see `solve_reach`.
 use solve_reach::Search;
 ghost use mathlib.Core.Path.{_≡_};
 ghost use Prim.Native.Nat.{ℕ, _+_, _-_, _≤_, _<_};

@@ -47,7 +47,7 @@ class-size t c n h =
 
 -- ---- the number of classes
 
--- the class number that goes
+-- the root that goes
 abbrev gone : (ℕ → ℕ) → ℕ → ℕ → ℕ
 gone c a b = cond (leb (c a) (c b)) (c b) (c a)
 

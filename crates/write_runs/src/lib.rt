@@ -1,5 +1,5 @@
 // Runs of proof lines that extend what the lines before them claim, by symmetry and transitivity. For each node, `to` has the
-// number of a line that claims the node same its class number.
+// number of a line that claims the node same its root, the class table's entry for it.
 ghost use mathlib.Core.Path.{_≡_};
 ghost use Prim.Native.Nat.{_+_, _≤_, _<_};
 ghost use Rattle.graph.specs.Limits.{nodeLimit, lineLimit, bufferBytes};
@@ -77,7 +77,7 @@ pub fn absorb(
     m
 }
 
-// Line `l` claims a same b: their classes become one, under the lower number.
+// Line `l` claims a same b: their classes become one, under the lower root.
 pub fn rewire(
     buf: &mut [u8],
     n: usize,

@@ -1,5 +1,5 @@
 // A trace of merges replayed as proof lines, and the lines for two nodes of one class. For each node, `to` has the number of
-// a line that claims the node same its class number. An entry is an equation's place, or two nodes of one class and a place:
+// a line that claims the node same its root. An entry is an equation's place, or two nodes of one class and a place:
 // see `solve_trace`.
 ghost use mathlib.Core.Path.{_≡_};
 ghost use Prim.Native.Nat.{ℕ, _+_, _*_, _≤_, _<_};
