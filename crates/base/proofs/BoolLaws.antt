@@ -24,6 +24,6 @@ pub not-true : (t : Bool) → not t ≡ true → t ≡ true → ⊥
 not-true true e p = zero-is-one cc
 not-true false e p = zero-is-one cc
 
-pub not-false : (t : Bool) → (t ≡ true → ⊥) → t ≡ false
-not-false true h = absurd (h refl)
-not-false false h = refl
+pub untrue-false : (t : Bool) → (t ≡ true → ⊥) → t ≡ false
+untrue-false true h = absurd (h refl)
+untrue-false false h = refl

@@ -12,9 +12,9 @@ use lib.ListN.{length}
 use lib.Dec.{eqb, leb, ltb}
 use lib.Bits.{bitAnd}
 use lib.Count.{ones, trailingZeros, trailing-of-zero}
-use borrow.Author.Tests.{eqb-true, eqb-false, eq-eqb, ne-eqb, lt-ltb, le-ltb}
+use borrow.Author.Tests.{eqb-true, eq-eqb, lt-ltb, le-ltb}
 use Rattle.base.proofs.AbsurdLaws.{true-is-false}
-use Rattle.base.proofs.BoolLaws.{and-left, and-right, and-both, not-false}
+use Rattle.base.proofs.BoolLaws.{and-left, and-right, and-both, untrue-false}
 use Rattle.base.proofs.CaseLaws.{below-or-from}
 use Rattle.base.proofs.ListLaws.{found-lt, lt-found}
 use Rattle.graph.specs.State.{Node, variable, functor, State, IsNode, FunctorAt, NodeAt}
@@ -65,6 +65,24 @@ size-most f (suc n) = omega (arith, one (f n), size-most f n)
     one : (b : Bool) → digit b ≤ 1
     one true = omega arith
     one false = omega arith
+
+-- ---- the class reply promises one number and one size
+
+-- one number has P and no lower one
+lowest-unique : {P : ℕ → Type 0} {l m : ℕ} → Lowest P l → Lowest P m → l ≡ m
+lowest-unique {P} p q = le-antisymm (atMost p q) (atMost q p)
+  where
+    atMost : {l m : ℕ} → Lowest P l → Lowest P m → l ≤ m
+    atMost {l} {m} p q = le-of-suc-le-suc (lt-of-not-le (λ h. p .below m h (q .here)))
+
+number-unique : {s : State} {u l m : ℕ} → ClassNumber s u l → ClassNumber s u m → l ≡ m
+number-unique (typed p) (typed q) = lowest-unique p q
+number-unique (typed p) (untyped z q) = absurd (z _ (p .here))
+number-unique (untyped z p) (typed q) = absurd (z _ (q .here))
+number-unique (untyped z p) (untyped y q) = lowest-unique p q
+
+pub class-unique : {s : State} {u l m i j : ℕ} → ClassOf s u l i → ClassOf s u m j → (l ≡ m) × (i ≡ j)
+class-unique p q = (number-unique (p .shows) (q .shows), count-unique (p .count) (q .count))
 
 -- ---- members as 64-bit sets: a those that pass f, b those that pass g
 
@@ -121,7 +139,7 @@ module _ (s : State) (u : ℕ) (k : IsNode s u) (few : length (s .nodes) ≤ 64)
     (inside : (v : ℕ) → v < 64 → f v ≡ true → IsNode s v × Same s u v) (member : (v : ℕ) → Same s u v → f v ≡ true)
     (typed-only : (v : ℕ) → IsNode s v → g v ≡ true → FunctorAt s v) (typed-all : (v : ℕ) → FunctorAt s v → g v ≡ true) where
   outside : (v : ℕ) → length (s .nodes) ≤ v → v < 64 → f v ≡ false
-  outside v l h = not-false (f v) (λ e. omega (arith, inside v h e .0))
+  outside v l h = untrue-false (f v) (λ e. omega (arith, inside v h e .0))
 
   count-by : CountOf (Same s u) (length (s .nodes)) (sizeOf f 64)
   count-by =
@@ -173,21 +191,3 @@ module _ (s : State) (t : List ℕ) (u : ℕ) (T : Table t) (X : Exact s t) (few
 
   pub class-of : ClassOf s u (numberOf (inClass t (class t u)) (functorKind kind)) (sizeOf (inClass t (class t u)) 64)
   class-of = class-by s u k few (inClass t (class t u)) (functorKind kind) table-inside (λ v p. eq-eqb (class t v) (class t u) (sym (X .has p))) typed-only typed-all
-
--- ---- the class reply promises one number and one size
-
--- one number has P and no lower one
-lowest-unique : {P : ℕ → Type 0} {l m : ℕ} → Lowest P l → Lowest P m → l ≡ m
-lowest-unique {P} p q = le-antisymm (atMost p q) (atMost q p)
-  where
-    atMost : {l m : ℕ} → Lowest P l → Lowest P m → l ≤ m
-    atMost {l} {m} p q = le-of-suc-le-suc (lt-of-not-le (λ h. p .below m h (q .here)))
-
-number-unique : {s : State} {u l m : ℕ} → ClassNumber s u l → ClassNumber s u m → l ≡ m
-number-unique (typed p) (typed q) = lowest-unique p q
-number-unique (typed p) (untyped z q) = absurd (z _ (p .here))
-number-unique (untyped z p) (typed q) = absurd (z _ (q .here))
-number-unique (untyped z p) (untyped y q) = lowest-unique p q
-
-pub class-unique : {s : State} {u l m i j : ℕ} → ClassOf s u l i → ClassOf s u m j → (l ≡ m) × (i ≡ j)
-class-unique p q = (number-unique (p .shows) (q .shows), count-unique (p .count) (q .count))

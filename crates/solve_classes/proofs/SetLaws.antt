@@ -11,7 +11,7 @@ use lib.Pow.{shl-exact}
 use lib.Dec.{lit<}
 use lib.Count.{ones, ones-cat, trailingZeros, under, trailing-of-zero}
 use Rattle.base.proofs.AbsurdLaws.{true-is-false}
-use Rattle.base.proofs.BoolLaws.{not-false}
+use Rattle.base.proofs.BoolLaws.{untrue-false}
 use Rattle.solve_classes.specs.Members.{digit, setOf, sizeOf, passBoth, Lowest, lowestFrom}
 
 pub set-none : (f : ℕ → Bool) → setOf f 0 ≡ 0
@@ -109,7 +109,7 @@ set-lowest f m (suc n) i l h w = go (λ q. set-lowest f m n i (omega arith) q w)
     go : (i < n → trailingZeros m (setOf f n) ≡ i) → (i ≡ n) ⊎ (i < n) → trailingZeros m (digit (f n) * 2 ^ n + setOf f n) ≡ i
     go rest (inl q) =
         let e : f n ≡ true = ap f (sym q) ∙ w .here in
-        let z : setOf f n ≡ 0 = set-empty f n (λ k u. not-false (f k) (w .below k (omega arith))) in
+        let z : setOf f n ≡ 0 = set-empty f n (λ k u. untrue-false (f k) (w .below k (omega arith))) in
         let s : digit (f n) * 2 ^ n + setOf f n ≡ 1 * 2 ^ n = ap₂ (λ (b : Bool) (x : ℕ). digit b * 2 ^ n + x) e z ∙ omega arith in
         ap (trailingZeros m) s ∙ trailing-one m n (omega arith) ∙ sym q
     go rest (inr q) = trailing-low m n (digit (f n)) (setOf f n) (set-pos f n i q (w .here)) (set-lt f n) (omega arith) ∙ rest q
