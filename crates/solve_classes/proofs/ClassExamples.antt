@@ -11,7 +11,7 @@ use Rattle.graph.specs.State.{functor, Equation, equationOf, State, IsNode, Fun
 use Rattle.graph.specs.Closure.{Same, equation, reflexivity, symmetry, transitivity}
 use Rattle.graph.proofs.SolutionTest.{isClasses, apart}
 use Rattle.base.proofs.AbsurdLaws.{zero-is-one, true-is-false}
-use Rattle.solve_classes.specs.Members.{functorKind, sizeOf, lowestFrom, numberOf, ClassOf}
+use Rattle.solve_classes.specs.Members.{functorKind, sizeOf, lowestFrom, classNumber, ClassOf}
 use Rattle.solve_classes.specs.ClassExamples.{fiveNodes, ClassExamples}
 use Rattle.solve_classes.proofs.MemberLaws.{class-by, class-unique}
 
@@ -56,7 +56,7 @@ module _ (es : List Equation) where
 
       class-in : mate 5 ≡ false
           → (mate 0 ≡ true → Same s u 0) → (mate 1 ≡ true → Same s u 1) → (mate 2 ≡ true → Same s u 2) → (mate 3 ≡ true → Same s u 3) → (mate 4 ≡ true → Same s u 4)
-          → ClassOf s u (numberOf mate (functorKind kinds)) (sizeOf mate 64)
+          → ClassOf s u (classNumber mate (functorKind kinds)) (sizeOf mate 64)
       class-in past p₀ p₁ p₂ p₃ p₄ = class-by s u k (omega arith) mate (functorKind kinds) joined together typed-only typed-all
         where
           joined : (v : ℕ) → v < 64 → mate v ≡ true → IsNode s v × Same s u v

@@ -21,7 +21,7 @@ use Rattle.graph.specs.State.{Node, variable, functor, State, IsNode, FunctorAt
 use Rattle.graph.specs.Closure.{Same, reflexivity}
 use Rattle.solve_classes.specs.Table.{class, Table, Fresh, Merged}
 use Rattle.solve_classes.specs.Exact.{Exact}
-use Rattle.solve_classes.specs.Members.{inClass, functorKind, digit, setOf, sizeOf, lowestFrom, passBoth, numberOf, Lowest, Alone, CountOf, start, has, lacks, FunctorIn, VariableIn, ClassNumber, typed, untyped, ClassOf}
+use Rattle.solve_classes.specs.Members.{inClass, functorKind, digit, setOf, sizeOf, lowestFrom, passBoth, classNumber, Lowest, Alone, CountOf, start, has, lacks, FunctorIn, VariableIn, ClassNumber, typed, untyped, ClassOf}
 use Rattle.solve_classes.proofs.MergeLaws.{cond-cases}
 use Rattle.solve_classes.proofs.SetLaws.{set-size, set-empty, set-zeros, set-both, lowest-finds}
 
@@ -94,7 +94,7 @@ module _ (f g : ℕ → Bool) {a b : ℕ} (e : a ≡ setOf f 64) (d : b ≡ setO
   shared = rw (e, d) (set-both f g 64)
 
   -- where some number is in both sets the lowest of those, else the lowest of a
-  pub zeros-number : {r : ℕ} → ((bitAnd a b ≡ 0) × (r ≡ a)) ⊎ ((bitAnd a b ≡ 0 → ⊥) × (r ≡ bitAnd a b)) → trailingZeros 64 r ≡ numberOf f g
+  pub zeros-number : {r : ℕ} → ((bitAnd a b ≡ 0) × (r ≡ a)) ⊎ ((bitAnd a b ≡ 0 → ⊥) × (r ≡ bitAnd a b)) → trailingZeros 64 r ≡ classNumber f g
   zeros-number (inl p) =
       let z : lowestFrom (passBoth f g) 0 64 ≡ 64 = sym (set-zeros (passBoth f g) 64) ∙ ap (trailingZeros 64) (sym shared ∙ p .0) ∙ trailing-of-zero 64 in
       rw (le-ltb (lowestFrom (passBoth f g) 0 64) 64 (omega (arith, z)), p .1, e) (set-zeros f 64)
@@ -104,7 +104,7 @@ module _ (f g : ℕ → Bool) {a b : ℕ} (e : a ≡ setOf f 64) (d : b ≡ setO
       (λ q. absurd (p .0 (shared ∙ set-empty (passBoth f g) 64 (q .1))))
       (lowest-finds (passBoth f g) 64)
 
-pub number-small : (f g : ℕ → Bool) → numberOf f g ≤ 64
+pub number-small : (f g : ℕ → Bool) → classNumber f g ≤ 64
 number-small f g = go (ltb (lowestFrom (passBoth f g) 0 64) 64)
   where
     small : (h : ℕ → Bool) → lowestFrom h 0 64 ≤ 64
@@ -168,7 +168,7 @@ module _ (s : State) (u : ℕ) (k : IsNode s u) (few : length (s .nodes) ≤ 64)
       (λ p. true-is-false (sym (member u (reflexivity k)) ∙ p .1 u (omega arith)))
       (lowest-finds f 64)
 
-  number-by : ClassNumber s u (numberOf f g)
+  number-by : ClassNumber s u (classNumber f g)
   number-by =
       ⊎-elim
       (λ p. rw (lt-ltb (lowestFrom (passBoth f g) 0 64) 64 (p .0)) (typed (record { here = functor-inside _ (p .0) (p .1 .here); below = λ v l q. p .1 .below v l (functor-member v q) })))
@@ -178,7 +178,7 @@ module _ (s : State) (u : ℕ) (k : IsNode s u) (few : length (s .nodes) ≤ 64)
       small : (v : ℕ) → FunctorIn s u v → v < 64
       small v q = omega (arith, few, found-lt (s .nodes) v (functor (q .1 .0) (q .1 .1)) (q .1 .2))
 
-  pub class-by : ClassOf s u (numberOf f g) (sizeOf f 64)
+  pub class-by : ClassOf s u (classNumber f g) (sizeOf f 64)
   class-by = record { shows = number-by; count = count-by }
 
 -- what `class_figures` gives of a known node's root is what the class reply promises
@@ -189,5 +189,5 @@ module _ (s : State) (t : List ℕ) (u : ℕ) (T : Table t) (X : Exact s t) (few
       let n : IsNode s v = ⊎-elim (λ l. l) (λ l. absurd (omega (arith, A v l h, T .low u (omega arith), eqb-true (class t v) (class t u) e))) (below-or-from (length (s .nodes)) v) in
       (n, X .only u v k n (sym (eqb-true (class t v) (class t u) e)))
 
-  pub class-of : ClassOf s u (numberOf (inClass t (class t u)) (functorKind kind)) (sizeOf (inClass t (class t u)) 64)
+  pub class-of : ClassOf s u (classNumber (inClass t (class t u)) (functorKind kind)) (sizeOf (inClass t (class t u)) 64)
   class-of = class-by s u k few (inClass t (class t u)) (functorKind kind) table-inside (λ v p. eq-eqb (class t v) (class t u) (sym (X .has p))) typed-only typed-all

@@ -4,7 +4,7 @@
 --   setOf        the numbers below n that pass a test, as one number: bit k stands for k
 --   sizeOf       how many there are
 --   lowestFrom   which is the lowest
---   numberOf     the lowest that passes two tests, else the lowest that passes the first: a class number, by its members
+--   classNumber  the lowest that passes two tests, else the lowest that passes the first: a class number, by its members
 --   Lowest       r is the lowest number that has P
 --   Alone        nodes from n on are alone in their class, as those that a state doesn't have
 --   CountOf      k of the numbers below n have P
@@ -48,8 +48,8 @@ abbrev pub passBoth : (ℕ → Bool) → (ℕ → Bool) → ℕ → Bool
 passBoth f g k = f k && g k
 
 -- among 64 numbers; 64 where none passes f
-abbrev pub numberOf : (ℕ → Bool) → (ℕ → Bool) → ℕ
-numberOf f g = cond (ltb (lowestFrom (passBoth f g) 0 64) 64) (lowestFrom (passBoth f g) 0 64) (lowestFrom f 0 64)
+abbrev pub classNumber : (ℕ → Bool) → (ℕ → Bool) → ℕ
+classNumber f g = cond (ltb (lowestFrom (passBoth f g) 0 64) 64) (lowestFrom (passBoth f g) 0 64) (lowestFrom f 0 64)
 
 pub record Lowest (P : ℕ → Type 0) (r : ℕ) : Type 0 where
   pub here : P r

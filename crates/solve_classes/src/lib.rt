@@ -2,7 +2,7 @@
 ghost use mathlib.Core.Path.{_≡_};
 ghost use Prim.Native.Nat.{ℕ, _<_};
 ghost use Rattle.solve_classes.specs.Table.{class, Fresh, Relabelled, Table, Merged};
-ghost use Rattle.solve_classes.specs.Members.{inClass, functorKind, setOf, sizeOf, numberOf};
+ghost use Rattle.solve_classes.specs.Members.{inClass, functorKind, setOf, sizeOf, classNumber};
 
 // Each node alone, to start.
 pub fn fresh() -> [u8; 64]
@@ -55,7 +55,7 @@ pub fn merge(table: [u8; 64], a: u8, b: u8) -> [u8; 64]
     unite(table, ca, cb)
 }
 
-// The members of class `c`, one bit for each node.
+// The nodes with entry `c`, one bit for each: the members of the class with that root.
 pub fn members(table: [u8; 64], c: u8) -> u64
     ensures { λ r. ⌜ r ≡ setOf (inClass table c) 64 ⌝ }
 {
@@ -76,10 +76,10 @@ pub struct Figures {
     pub size: u8,
 }
 
-// Class `c`: its lowest functor node, or its lowest node where it has none, and how many nodes it has. A node's kind is 1 for a
-// functor node, so the nodes of that kind are the members of class 1 by kind.
+// Of the class with root `c`: its lowest functor node, or its lowest node where it has none, and how many nodes it has. By kind the nodes
+// are a table of two classes, in which the functor nodes have entry 1.
 pub fn class_figures(table: [u8; 64], kind: [u8; 64], c: u8) -> Figures
-    ensures { λ r. ⌜ (r .number ≡ numberOf (inClass table c) (functorKind kind)) × (r .size ≡ sizeOf (inClass table c) 64) ⌝ }
+    ensures { λ r. ⌜ (r .number ≡ classNumber (inClass table c) (functorKind kind)) × (r .size ≡ sizeOf (inClass table c) 64) ⌝ }
 {
     let all = members(table, c);
     let mut shown = all & members(kind, 1);

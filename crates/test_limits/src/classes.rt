@@ -44,7 +44,7 @@ fn alone(w: Workspace) {
 }
 
 // Symbol 0 is a type as any other.
-fn two(w: Workspace, buf: &mut [u8]) -> Workspace {
+fn two(w: Workspace, buf: &mut [u8; 65536]) -> Workspace {
     let a = workspaces::equated(w, 1, 0, 1, buf);
     class(b"0 = 1", a, 0);
     class(b"0 = 1", a, 1);
@@ -54,7 +54,7 @@ fn two(w: Workspace, buf: &mut [u8]) -> Workspace {
     b
 }
 
-fn four(w: Workspace, buf: &mut [u8]) {
+fn four(w: Workspace, buf: &mut [u8; 65536]) {
     let a = workspaces::equated(w, 2, 0, 3, buf);
     class(b"0 = 3", a, 3);
     let b = workspaces::equated(a, 3, 3, 4, buf);
@@ -65,7 +65,7 @@ fn four(w: Workspace, buf: &mut [u8]) {
 }
 
 // Equations from 0 = 1 on, each of a node with the next.
-fn chained(w: Workspace, buf: &mut [u8], times: usize) -> Workspace {
+fn chained(w: Workspace, buf: &mut [u8; 65536], times: usize) -> Workspace {
     let mut now = w;
     let mut i: usize = 0;
     while i < times {
@@ -83,17 +83,18 @@ fn chained(w: Workspace, buf: &mut [u8], times: usize) -> Workspace {
 }
 
 // Node 63 is a functor node, the others are variables.
-fn all_nodes(buf: &mut [u8]) {
+fn all_nodes(buf: &mut [u8; 65536]) {
     let none: [u16; 0] = [];
     let w = chained(workspaces::functor(edges::declared(63), 7, &none), buf, 62);
     class(b"63 variables", w, 62);
     class(b"64 nodes", workspaces::equated(w, 62, 62, 63, buf), 0);
 }
 
-pub fn all(buf: &mut [u8]) {
+pub fn all() {
+    let mut buf = [0u8; 65536];
     let w = five();
     alone(w);
-    let back = two(w, buf);
-    four(back, buf);
-    all_nodes(buf);
+    let back = two(w, &mut buf);
+    four(back, &mut buf);
+    all_nodes(&mut buf);
 }

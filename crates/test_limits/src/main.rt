@@ -10,6 +10,6 @@ fn main() {
     edges::equations(&mut buf);
     edges::lines(&mut lines);
     edges::buffers(&mut buf);
-    classes::all(&mut buf);
+    classes::all();
     damaged::all(&mut buf);
 }

@@ -117,6 +117,11 @@ fn class(w: Workspace, m: &mut [usize], u: usize) -> Workspace {
     o.workspace
 }
 
+fn class_of_known(w: Workspace, m: &mut [usize], u: usize) -> Workspace {
+    counts::shown(m, closure::variable_first(m, u));
+    class(w, m, u)
+}
+
 // Some node's class; then every node's, with the workspace after each.
 pub fn classes(w: Workspace, m: &mut [usize]) -> Workspace {
     let some = picks::node(m);
@@ -124,10 +129,9 @@ pub fn classes(w: Workspace, m: &mut [usize]) -> Workspace {
     let mut now = class(w, m, some);
     let mut u: usize = 0;
     while u < n {
-        let next = class(now, m, u);
+        let next = class_of_known(now, m, u);
         now = next;
         counts::expect(m, workspaces::agrees(now, m));
-        counts::shown(m, closure::variable_first(m, u));
         u += 1;
     }
     now

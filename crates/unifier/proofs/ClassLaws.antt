@@ -6,7 +6,7 @@ use Prim.Native.Nat.{ℕ, _<_}
 use borrow.Author.Tests.{eq-eqb, eqb-true}
 use Rattle.graph.specs.State.{IsNode, FunctorAt}
 use Rattle.solve_classes.specs.Table.{class}
-use Rattle.solve_classes.specs.Members.{inClass, functorKind, sizeOf, numberOf}
+use Rattle.solve_classes.specs.Members.{inClass, functorKind, sizeOf, classNumber}
 use Rattle.solve_classes.proofs.MemberLaws.{class-of}
 use Rattle.store.specs.Views.{symbolAt, childrenAt}
 use Rattle.store.proofs.ViewLaws.{nodes-length, functor-found, functor-known}
@@ -27,7 +27,7 @@ functor-all : (w : Workspace) (v : ℕ) → FunctorAt (stateOf w) v → functorK
 functor-all w v F = eq-eqb _ _ (functor-known (w .terms) v (F .0) (F .1) (F .2) .1)
 
 module _ (w : Workspace) (t : List ℕ) (u : ℕ) (k : Classed w t) (h : u < w .terms .count) where
-  pub told : (number size : ℕ) → number ≡ numberOf (inClass t (class t u)) (functorKind (w .terms .kind)) → size ≡ sizeOf (inClass t (class t u)) 64
+  pub told : (number size : ℕ) → number ≡ classNumber (inClass t (class t u)) (functorKind (w .terms .kind)) → size ≡ sizeOf (inClass t (class t u)) 64
       → Classifies w u (classified (class-reply.Class number size) w)
   told number size p q =
       class-told w u (k .valid) h number size
