@@ -26,14 +26,15 @@ functor-only w v n e = (symbolAt (w .terms) v, childrenAt (w .terms) v, functor-
 functor-all : (w : Workspace) (v : ℕ) → FunctorAt (stateOf w) v → functorKind (w .terms .kind) v ≡ true
 functor-all w v F = eq-eqb _ _ (functor-known (w .terms) v (F .0) (F .1) (F .2) .1)
 
-module _ (w : Workspace) (t : List ℕ) (u : ℕ) (k : Classed w t) (h : u < w .terms .count) where
-  pub told : (number size : ℕ) → number ≡ classNumber (inClass t (class t u)) (functorKind (w .terms .kind)) → size ≡ sizeOf (inClass t (class t u)) 64
+module _ (w : Workspace) (t kind : List ℕ) (u : ℕ) (k : Classed w t × (kind ≡ w .terms .kind)) (h : u < w .terms .count) where
+  pub told : (number size : ℕ) → (number ≡ classNumber (inClass t (class t u)) (functorKind kind)) × (size ≡ sizeOf (inClass t (class t u)) 64)
       → Classifies w u (classified (class-reply.Class number size) w)
-  told number size p q =
-      class-told w u (k .valid) h number size
-      (rw (p, q)
-      (class-of (stateOf w) t u (k .table) (k .exact)
-      (rw (nodes-length (w .terms)) (k .valid .shape .terms .few))
-      (rw (nodes-length (w .terms)) (k .alone))
+  told number size r =
+      let c = k .0 in
+      class-told w u (c .valid) h number size
+      (rw (r .0, r .1, k .1)
+      (class-of (stateOf w) t u (c .table) (c .exact)
+      (rw (nodes-length (w .terms)) (c .valid .shape .terms .few))
+      (rw (nodes-length (w .terms)) (c .alone))
       (rw (nodes-length (w .terms)) h)
       (w .terms .kind) (functor-only w) (functor-all w)))

@@ -101,11 +101,14 @@ impl Workspace {
         Workspace::fresh()
     }
 
-    // Whether this is a workspace, with its class table and trace.
-    fn examined(self, trace: &mut [u16; 64]) -> Examined
+    // Whether this is a workspace, with its class table, its trace and its nodes' kinds. The kinds are those of the copy that the test
+    // reads: read off the workspace, they would take it apart, and it would be copied once more.
+    fn examined_kinds(self, trace: &mut [u16; 64], kind: &mut [u8; 64]) -> Examined
         requires { ⌜ length (now trace) ≡ 64 ⌝ }
         ensures { λ r. ⌜ Examines (self .terms) (self .equations) (now (trace .exit)) r ⌝ }
+        ensures { λ r. ⌜ now (kind .exit) ≡ self .terms .kind ⌝ }
     {
+        *kind = self.terms.kind;
         unifier_examine::examine(
             trace,
             self.terms.count,
@@ -118,6 +121,15 @@ impl Workspace {
             &self.equations.left,
             &self.equations.right,
         )
+    }
+
+    // The same without the kinds.
+    fn examined(self, trace: &mut [u16; 64]) -> Examined
+        requires { ⌜ length (now trace) ≡ 64 ⌝ }
+        ensures { λ r. ⌜ Examines (self .terms) (self .equations) (now (trace .exit)) r ⌝ }
+    {
+        let mut kind = [0u8; 64];
+        self.examined_kinds(trace, &mut kind)
     }
 
     fn refuse(self, number: u8) -> Outcome
@@ -232,8 +244,9 @@ impl Workspace {
         }
     }
 
-    fn class_in(self, table: [u8; 64], u: u16) -> Classified
+    fn class_in(self, table: [u8; 64], kind: [u8; 64], u: u16) -> Classified
         requires { ⌜ Classed self table ⌝ }
+        requires { ⌜ kind ≡ self .terms .kind ⌝ }
         ensures { λ r. ⌜ Classifies self u r ⌝ }
     {
         let x = u as usize;
@@ -241,7 +254,6 @@ impl Workspace {
             return self.refuse_class(4);
         }
         let c = table[x];
-        let kind = self.terms.kind;
         let k = solve_classes::class_figures(table, kind, c);
         Classified {
             reply: ClassReply::Class(k.number, k.size),
@@ -254,10 +266,11 @@ impl Workspace {
         ensures { λ r. ⌜ Classifies self u r ⌝ }
     {
         let mut trace = [0u16; 64];
-        let x = self.examined(&mut trace);
+        let mut kind = [0u8; 64];
+        let x = self.examined_kinds(&mut trace, &mut kind);
         if x.valid {
             let table = x.table;
-            return self.class_in(table, u);
+            return self.class_in(table, kind, u);
         }
         self.refuse_class(1)
     }
