@@ -54,10 +54,10 @@ module _ (es : List Equation) where
           go true e = refl
           go false e = absurd (apart s cs u v ok e p)
 
-      class-in : mate 5 ≡ false
+      class-with : mate 5 ≡ false
           → (mate 0 ≡ true → Same s u 0) → (mate 1 ≡ true → Same s u 1) → (mate 2 ≡ true → Same s u 2) → (mate 3 ≡ true → Same s u 3) → (mate 4 ≡ true → Same s u 4)
           → ClassOf s u (classNumber mate (functorKind kinds)) (sizeOf mate 64)
-      class-in past p₀ p₁ p₂ p₃ p₄ = class-by s u k (omega arith) mate (functorKind kinds) joined together typed-only typed-all
+      class-with past p₀ p₁ p₂ p₃ p₄ = class-by s u k (omega arith) mate (functorKind kinds) joined together typed-only typed-all
         where
           joined : (v : ℕ) → v < 64 → mate v ≡ true → IsNode s v × Same s u v
           joined zero h e = (omega arith, p₀ e)
@@ -85,20 +85,20 @@ four = equationOf 2 0 3 ∷ equationOf 3 3 4 ∷ equationOf 4 4 2 ∷ []
 
 shown : ClassOf (fiveNodes one) 0 1 2
 unfolding lowestFrom sizeOf
-shown = class-in one 1 1 3 4 5 refl 0 (omega arith) refl (λ e. reflexivity (omega arith)) (λ e. by one 0 _ refl) no no no
+shown = class-with one 1 1 3 4 5 refl 0 (omega arith) refl (λ e. reflexivity (omega arith)) (λ e. by one 0 _ refl) no no no
 
 pub class-examples : ClassExamples
 unfolding lowestFrom sizeOf
 class-examples =
     record {
-      lone-variable = class-in [] 1 2 3 4 5 refl 0 (omega arith) refl (λ e. reflexivity (omega arith)) no no no no;
-      lone-functor = class-in [] 1 2 3 4 5 refl 1 (omega arith) refl no (λ e. reflexivity (omega arith)) no no no;
+      lone-variable = class-with [] 1 2 3 4 5 refl 0 (omega arith) refl (λ e. reflexivity (omega arith)) no no no no;
+      lone-functor = class-with [] 1 2 3 4 5 refl 1 (omega arith) refl no (λ e. reflexivity (omega arith)) no no no;
       lower-variable = shown;
-      its-own = class-in one 1 1 3 4 5 refl 1 (omega arith) refl (λ e. symmetry (by one 0 _ refl)) (λ e. reflexivity (omega arith)) no no no;
+      its-own = class-with one 1 1 3 4 5 refl 1 (omega arith) refl (λ e. symmetry (by one 0 _ refl)) (λ e. reflexivity (omega arith)) no no no;
       not-lowest = λ size p. zero-is-one (class-unique p shown .0);
-      variables = class-in two 1 2 3 1 5 refl 3 (omega arith) refl (λ e. symmetry (by two 0 _ refl)) no no (λ e. reflexivity (omega arith)) no;
+      variables = class-with two 1 2 3 1 5 refl 3 (omega arith) refl (λ e. symmetry (by two 0 _ refl)) no no (λ e. reflexivity (omega arith)) no;
       two-functors =
-          class-in four 1 2 1 1 1 refl 0 (omega arith) refl
+          class-with four 1 2 1 1 1 refl 0 (omega arith) refl
           (λ e. reflexivity (omega arith)) no
           (λ e. transitivity (by four 0 _ refl) (transitivity (by four 1 _ refl) (by four 2 _ refl)))
           (λ e. by four 0 _ refl)

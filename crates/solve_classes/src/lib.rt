@@ -76,8 +76,8 @@ pub struct Figures {
     pub size: u8,
 }
 
-// Of the class with root `c`: its lowest functor node, or its lowest node where it has none, and how many nodes it has. By kind the nodes
-// are a table of two classes, in which the functor nodes have entry 1.
+// Of the class with root `c`: its lowest functor node, or its lowest node where it has none (64 where it has no nodes), and how many nodes it
+// has. By kind the nodes are a table of two classes, in which the functor nodes have entry 1.
 pub fn class_figures(table: [u8; 64], kind: [u8; 64], c: u8) -> Figures
     ensures { λ r. ⌜ (r .number ≡ classNumber (inClass table c) (functorKind kind)) × (r .size ≡ sizeOf (inClass table c) 64) ⌝ }
 {

@@ -87,7 +87,10 @@ fn all_nodes(buf: &mut [u8; 65536]) {
     let none: [u16; 0] = [];
     let w = chained(workspaces::functor(edges::declared(63), 7, &none), buf, 62);
     class(b"63 variables", w, 62);
-    class(b"64 nodes", workspaces::equated(w, 62, 62, 63, buf), 0);
+    let full = workspaces::equated(w, 62, 62, 63, buf);
+    class(b"64 nodes", full, 0);
+    class(b"64 nodes", full, 63);
+    class(b"64 nodes", full, 64);
 }
 
 pub fn all() {

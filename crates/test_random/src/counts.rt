@@ -28,7 +28,7 @@ const AGREED: usize = 37;
 
 const MISMATCHES: usize = 38;
 
-// Classes whose number is a functor node above their lowest node.
+// Class replies whose number is not the lowest node of the class.
 pub const SHOWN: usize = 39;
 
 // One comparison: counted as agreed or as a mismatch.

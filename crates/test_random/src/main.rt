@@ -79,7 +79,7 @@ fn show(m: &[usize]) {
         counts::CALLS,
     );
     print(
-        b"classes with a variable below their functor nodes: #\n",
+        b"class numbers that are not the lowest node: #\n",
         m,
         counts::SHOWN,
     );
