@@ -13,7 +13,7 @@ use lib.Dec.{ltb, leb}
 use borrow.Author.Tests.{ltb-true, ltb-false, leb-false, ne-eqb}
 use Rattle.graph.specs.Limits.{nodeLimit, childLimit, equationLimit, bufferBytes}
 use Rattle.graph.specs.State.{Node, Equation, State, nameHeld}
-use Rattle.graph.specs.Book.{Call, declare, equate, Transition, allBelow, childrenOf, early, Late, Else, Refusal, accepted, answer, Runs, over, step}
+use Rattle.graph.specs.Book.{Call, declare, equate, Transition, allBelow, childrenOf, nodeFits, early, Late, Else, Refusal, accepted, answer, Runs, over, step}
 use Rattle.base.proofs.AbsurdLaws.{zero-is-one}
 use Rattle.base.proofs.BoolLaws.{and-left, and-right}
 
@@ -33,6 +33,10 @@ module _ (s : State) (n : Node) where
   pub child-unknown : leb nodeLimit (length (s .nodes)) ≡ false → ltb childLimit (length (childrenOf n)) ≡ false → allBelow (length (s .nodes)) (childrenOf n) ≡ false
       → early s (declare n) ≡ some 4
   child-unknown f m k = cc
+
+  pub arity-differs : leb nodeLimit (length (s .nodes)) ≡ false → ltb childLimit (length (childrenOf n)) ≡ false → allBelow (length (s .nodes)) (childrenOf n) ≡ true
+      → nodeFits n (s .nodes) ≡ false → early s (declare n) ≡ some 18
+  arity-differs f m k a = cc
 
 -- and when equate is
 module _ (s : State) (e : Equation) (room : ℕ) where
@@ -57,19 +61,22 @@ module _ (s : State) where
     pub room : length (s .nodes) < nodeLimit
     pub few : length (childrenOf n) ≤ childLimit
     pub known : allBelow (length (s .nodes)) (childrenOf n) ≡ true
+    pub fits : nodeFits n (s .nodes) ≡ true
 
   pub declare-accepted : (n : Node) → Refusal s (declare n) 0 → Declared n
-  declare-accepted n v = go (leb nodeLimit (length (s .nodes))) (ltb childLimit (length (childrenOf n))) (allBelow (length (s .nodes)) (childrenOf n)) refl refl refl
+  declare-accepted n v = go (leb nodeLimit (length (s .nodes))) (ltb childLimit (length (childrenOf n))) (allBelow (length (s .nodes)) (childrenOf n)) (nodeFits n (s .nodes)) refl refl refl refl
     where
       no : (k : ℕ) → early s (declare n) ≡ some (suc k) → ⊥
       no k e = refused-so (early s (declare n)) (Late s (declare n)) k e v
 
-      go : (f m k : Bool) → leb nodeLimit (length (s .nodes)) ≡ f → ltb childLimit (length (childrenOf n)) ≡ m → allBelow (length (s .nodes)) (childrenOf n) ≡ k → Declared n
-      go true m k p q r = absurd (no 1 (nodes-full s n p))
-      go false true k p q r = absurd (no 2 (children-many s n p q))
-      go false false false p q r = absurd (no 3 (child-unknown s n p q r))
-      go false false true p q r =
-          record { room = leb-false nodeLimit (length (s .nodes)) p; few = ltb-false childLimit (length (childrenOf n)) q; known = r }
+      go : (f m k a : Bool) → leb nodeLimit (length (s .nodes)) ≡ f → ltb childLimit (length (childrenOf n)) ≡ m → allBelow (length (s .nodes)) (childrenOf n) ≡ k
+          → nodeFits n (s .nodes) ≡ a → Declared n
+      go true m k a p q r t = absurd (no 1 (nodes-full s n p))
+      go false true k a p q r t = absurd (no 2 (children-many s n p q))
+      go false false false a p q r t = absurd (no 3 (child-unknown s n p q r))
+      go false false true false p q r t = absurd (no 17 (arity-differs s n p q r t))
+      go false false true true p q r t =
+          record { room = leb-false nodeLimit (length (s .nodes)) p; few = ltb-false childLimit (length (childrenOf n)) q; known = r; fits = t }
 
   pub record Equated (e : Equation) (room : ℕ) : Type 0 where
     pub buffer : bufferBytes ≤ room

@@ -15,7 +15,7 @@ pub record Keeps (s : State) (R : ℕ → ℕ → Type 0) : Type 0 where
   pub by-symmetry : (u v : ℕ) → R u v → R v u
   pub by-transitivity : (u v w : ℕ) → R u v → R v w → R u w
   pub by-down : (u v f g x y i : ℕ) (cs ds : List ℕ) → R u v → NodeAt s u (functor f cs) → NodeAt s v (functor g ds)
-      → EqualLabels f cs g ds → ChildAt cs i x → ChildAt ds i y → R x y
+      → EqualLabels f g → ChildAt cs i x → ChildAt ds i y → R x y
 
 module _ (s : State) (R : ℕ → ℕ → Type 0) (k : Keeps s R) where
   pub same-least : {u v : ℕ} → Same s u v → R u v
@@ -23,7 +23,7 @@ module _ (s : State) (R : ℕ → ℕ → Type 0) (k : Keeps s R) where
   same-least (reflexivity {u} h) = k .by-reflexivity u h
   same-least (symmetry {u} {v} p) = k .by-symmetry u v (same-least p)
   same-least (transitivity p q) = k .by-transitivity _ _ _ (same-least p) (same-least q)
-  same-least (down {u} {v} {f} {g} {x} {y} {cs} {ds} i p n m l c d) = k .by-down u v f g x y i cs ds (same-least p) n m (omega arith, omega arith) c d
+  same-least (down {u} {v} {f} {g} {x} {y} {cs} {ds} i p n m l c d) = k .by-down u v f g x y i cs ds (same-least p) n m l c d
 
 -- Q keeps the rules of `Below`
 pub record KeepsBelow (s : State) (Q : ℕ → ℕ → Type 0) : Type 0 where

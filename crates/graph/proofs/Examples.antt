@@ -13,7 +13,7 @@ use Rattle.graph.specs.Verdict.{Verdict}
 use Rattle.graph.specs.Lines.{Line, tidy, byRule, claimOf}
 use Rattle.graph.specs.Goals.{clash-goal, cycle-goal, same-goal}
 use Rattle.graph.specs.Book.{over, step}
-use Rattle.graph.specs.Examples.{equation-line, child-line, turned-line, joined-line, down-line, ExampleRun, program, e11, program-calls, program-replies, Starred, types, a-b, c-g, SectionTwo, siblings, parents, congruent, Nothing, Untidy, Broken, Refusals, Examples}
+use Rattle.graph.specs.Examples.{equation-line, child-line, turned-line, joined-line, down-line, ExampleRun, program, e11, program-calls, program-replies, Starred, types, a-b, c-g, SectionTwo, siblings, parents, congruent, Nothing, Untidy, Broken, Refusals, Arities, Examples}
 use Rattle.base.proofs.AbsurdLaws.{zero-is-one}
 use Rattle.base.proofs.ListLaws.{found-take, found-snoc}
 use Rattle.graph.proofs.SolutionLaws.{Fewer, solution-fewer, proper-fewer, solution-verdict}
@@ -79,7 +79,7 @@ starred = record {
   program-after = solution-ok _ (0 ∷ 1 ∷ 0 ∷ []) (0 ∷ 0 ∷ 0 ∷ []) refl;
   program-session = program-session;
   loop-cycle = cycle-verdict _ (0 ∷ 0 ∷ []) (equation-line 10 ∷ child-line 1 1 ∷ joined-line 0 1 ∷ []) refl refl;
-  arities-clash = clash-verdict _ (equation-line 10 ∷ []) refl;
+  arities-refused = omega arith;
   a-same-b = judge-sound _ (same-goal 0 2) (equation-line 10 ∷ down-line 0 1 ∷ down-line 0 2 ∷ joined-line 1 2 ∷ []) refl;
   both-cycle = judge-sound _ cycle-goal (equation-line 10 ∷ down-line 0 1 ∷ child-line 4 1 ∷ joined-line 1 2 ∷ []) refl;
   both-clash = clash-verdict _ (equation-line 10 ∷ down-line 0 2 ∷ []) refl;
@@ -255,6 +255,31 @@ refusals = record {
   seven-before-eight = omega arith;
 }
 
+arities : Arities
+unfolding tidy byRule claimOf
+arities = record {
+  fewer-children = omega arith;
+  no-children = omega arith;
+  after-none = omega arith;
+  as-many = omega arith;
+  other-symbol = omega arith;
+  other-remainder = omega arith;
+  symbol-0 = omega arith;
+  symbol-0-again = omega arith;
+  variable-again = omega arith;
+  two-before-eighteen = omega arith;
+  three-before-eighteen = omega arith;
+  four-before-eighteen = omega arith;
+  refused-fixes-none = record { answers = _; runs = step 4 refl (step 0 refl (step 0 refl (step 18 refl (step 0 refl over)))); replies = refl };
+  withdrawal-frees-none = record {
+    answers = _;
+    runs = step 0 refl (step 0 refl (step 0 (held-verdict _ (0 ∷ 1 ∷ []) (0 ∷ 1 ∷ []) refl refl) (step 0 refl (step 18 refl over))));
+    replies = refl;
+  };
+  clear-frees = record { answers = _; runs = step 0 refl (step 18 refl (step 0 refl (step 0 refl (step 0 refl over)))); replies = refl };
+  other-symbol-clash = clash-verdict _ (equation-line 5 ∷ []) refl;
+}
+
 pub examples : Examples
 examples = record {
   starred = starred;
@@ -263,4 +288,5 @@ examples = record {
   untidy = untidy;
   broken = broken;
   refusals = refusals;
+  arities = arities;
 }

@@ -10,6 +10,7 @@
 --   AcceptLaws        what a call that isn't refused has shown
 --   ProperLaws        the book's calls keep a state proper
 --   LimitLaws         they keep document 01's limits
+--   ArityLaws         they keep one number of children for each symbol
 --   SolutionKeptLaws  they keep a solution
 --   SolutionTest      tests that compute: classes, solution, proper state
 --   Examples          the worked examples: one fact
@@ -24,6 +25,7 @@ pub mod HeldLaws
 pub mod AcceptLaws
 pub mod ProperLaws
 pub mod LimitLaws
+pub mod ArityLaws
 pub mod SolutionKeptLaws
 pub mod SolutionTest
 pub mod Examples

@@ -3,18 +3,16 @@
 --   named-held, functor-at       an equation found by its name is held; a functor found stands there
 --   labels-equal, equal-labels   the label test says what equal labels are
 use mathlib.Core.Path.{_≡_, refl, subst}
-use mathlib.Core.Bool.{Bool, true, false, _&&_, cond}
+use mathlib.Core.Bool.{Bool, true, false, cond}
 use mathlib.Core.List.{List, [], _∷_, _++_}
 use mathlib.Core.Option.{Option, none, some}
 use Prim.Native.Nat.{ℕ, zero, suc}
-use native.Mathlib.Omega.{arith}
-use lib.ListN.{length, getElem?}
+use lib.ListN.{getElem?}
 use lib.Dec.{eqb}
 use borrow.Author.Tests.{eqb-true, eq-eqb}
-use Rattle.graph.specs.State.{Node, variable, functor, Equation, SameLabel, sameLabel, EqualLabels}
+use Rattle.graph.specs.State.{Node, variable, functor, Equation, EqualLabels}
 use Rattle.graph.specs.Lines.{try, need, named, Functor, functorOf, functorAt, equalLabels}
 use Rattle.base.proofs.AbsurdLaws.{zero-is-one}
-use Rattle.base.proofs.BoolLaws.{and-left, and-right, and-both}
 
 -- P of what is there, if anything is
 abbrev pub IfSome : {A : Type 0} → (A → Type 0) → Option A → Type 0
@@ -67,19 +65,10 @@ functor-at ns u k h = go (getElem? ns u) h
     go (some variable) q = zero-is-one cc
     go (some (functor f cs)) q = cc
 
--- the label test says what a label is
-module _ (f a g b : ℕ) where
-  test-label : sameLabel f a g b ≡ true → SameLabel f a g b
-  test-label e =
-      let q : eqb f g && eqb a b ≡ true = cc in
-      (omega (arith, eqb-true f g (and-left (eqb f g) (eqb a b) q)), omega (arith, eqb-true a b (and-right (eqb f g) (eqb a b) q)))
-
-  label-test : SameLabel f a g b → sameLabel f a g b ≡ true
-  label-test h = and-both (eqb f g) (eqb a b) (eq-eqb f g (omega (arith, h .0))) (eq-eqb a b (omega (arith, h .1)))
-
+-- the label test says what equal labels are
 module _ (k m : Functor) where
-  pub labels-equal : equalLabels k m ≡ true → EqualLabels (k .symbol) (k .children) (m .symbol) (m .children)
-  labels-equal = test-label (k .symbol) (length (k .children)) (m .symbol) (length (m .children))
+  pub labels-equal : equalLabels k m ≡ true → EqualLabels (k .symbol) (m .symbol)
+  labels-equal = eqb-true (k .symbol) (m .symbol)
 
-  pub equal-labels : EqualLabels (k .symbol) (k .children) (m .symbol) (m .children) → equalLabels k m ≡ true
-  equal-labels = label-test (k .symbol) (length (k .children)) (m .symbol) (length (m .children))
+  pub equal-labels : EqualLabels (k .symbol) (m .symbol) → equalLabels k m ≡ true
+  equal-labels = eq-eqb (k .symbol) (m .symbol)

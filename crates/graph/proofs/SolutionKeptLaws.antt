@@ -90,7 +90,7 @@ module _ (s : State) (P : Proper s) (S : Solution s) (n : Node) (a : allBelow (l
     label = λ u v f g cs ds l r e.
         ⊎-elim
         (λ o. ⊎-elim (λ q. S .classes .label u v f g cs ds (o .0) (q .0) (same-old u v (o .1) (q .1) e)) (λ q. absurd (apart u v (o .1) (q .0) e)) (at v (functor g ds) r))
-        (λ o. ⊎-elim (λ q. absurd (apart v u (q .1) (o .0) (sym e))) (λ q. let z : functor f cs ≡ functor g ds = sym (o .1) ∙ q .1 in (cc, ap length (ap childrenOf z))) (at v (functor g ds) r))
+        (λ o. ⊎-elim (λ q. absurd (apart v u (q .1) (o .0) (sym e))) (λ q. let z : functor f cs ≡ functor g ds = sym (o .1) ∙ q .1 in cc) (at v (functor g ds) r))
         (at u (functor f cs) l);
     place = λ u v f g i x y cs ds l r e k m.
         ⊎-elim

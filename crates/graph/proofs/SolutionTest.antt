@@ -1,11 +1,10 @@
 -- Tests that compute, and what they say: that two lists of numbers are a state's classes and heights, and that a state is proper.
 -- For examples: each is closed by computation.
-use mathlib.Core.Path.{_≡_, refl, ap}
+use mathlib.Core.Path.{_≡_}
 use mathlib.Core.Bool.{Bool, true, false, not, _&&_, _||_}
 use mathlib.Core.List.{List, [], _∷_}
 use mathlib.Core.Option.{some}
 use Prim.Native.Nat.{ℕ, zero, suc, _<_}
-use native.Mathlib.Omega.{arith}
 use lib.ListN.{length, getElem?, getD}
 use lib.Dec.{eqb, ltb}
 use borrow.Author.Tests.{eqb-true, eqb-false, ltb-true, eq-eqb}
@@ -84,12 +83,6 @@ each-at f [] e i a q = cc
 each-at f (x ∷ xs) e zero a q = let p : x ≡ a = cc in rw (← p) (and-left (f 0 x) _ e)
 each-at f (x ∷ xs) e (suc i) a q = each-at (λ j. f (suc j)) xs (and-right (f 0 x) _ e) i a q
 
-places-length : (c : ℕ → ℕ) (cs ds : List ℕ) → samePlaces c cs ds ≡ true → length cs ≡ length ds
-places-length c [] [] e = refl
-places-length c [] (y ∷ ys) e = zero-is-one cc
-places-length c (x ∷ xs) [] e = zero-is-one cc
-places-length c (x ∷ xs) (y ∷ ys) e = ap suc (places-length c xs ys (and-right (eqb (c x) (c y)) (samePlaces c xs ys) e))
-
 places-at : (c : ℕ → ℕ) (cs ds : List ℕ) → samePlaces c cs ds ≡ true → (i x y : ℕ) → ChildAt cs i x → ChildAt ds i y → c x ≡ c y
 places-at c [] ds e i x y p q = zero-is-one cc
 places-at c (a ∷ cs) [] e i x y p q = zero-is-one cc
@@ -97,9 +90,8 @@ places-at c (a ∷ cs) (d ∷ ds) e zero x y p q =
     let k : c a ≡ c d = eqb-true (c a) (c d) (and-left (eqb (c a) (c d)) (samePlaces c cs ds) e) in cc
 places-at c (a ∷ cs) (d ∷ ds) e (suc i) x y p q = places-at c cs ds (and-right (eqb (c a) (c d)) (samePlaces c cs ds) e) i x y p q
 
-agree-label : (c : ℕ → ℕ) (f g : ℕ) (cs ds : List ℕ) → agree c (functor f cs) (functor g ds) ≡ true → EqualLabels f cs g ds
-agree-label c f g cs ds e =
-    (omega (arith, eqb-true f g (and-left (eqb f g) (samePlaces c cs ds) e)), omega (arith, places-length c cs ds (and-right (eqb f g) (samePlaces c cs ds) e)))
+agree-label : (c : ℕ → ℕ) (f g : ℕ) (cs ds : List ℕ) → agree c (functor f cs) (functor g ds) ≡ true → EqualLabels f g
+agree-label c f g cs ds e = eqb-true f g (and-left (eqb f g) (samePlaces c cs ds) e)
 
 module _ (s : State) (c : ℕ → ℕ) (e-ok : equatedTest c s ≡ true) (p-ok : pairsTest c s ≡ true) where
   pair-at : (u v : ℕ) (n m : Node) → NodeAt s u n → NodeAt s v m → c u ≡ c v → agree c n m ≡ true

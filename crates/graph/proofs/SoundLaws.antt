@@ -49,7 +49,7 @@ module _ (s : State) where
       need-ok (Holds s) (equalLabels k m) _
       (λ t. try-ok (Holds s) (getElem? (k .children) i) _
       (λ x c. try-ok (Holds s) (getElem? (m .children) i) _
-      (λ y d. let l = labels-equal k m t in down i h n o (search) c d)))
+      (λ y d. down i h n o (labels-equal k m t) c d)))
 
   down-ok : (p : ℕ) (c : Claim) → Holds s c → IfSome (Holds s) (downOf (s .nodes) p c)
   down-ok p (same u v) h =

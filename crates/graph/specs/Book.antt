@@ -3,6 +3,7 @@
 --   BookReply    a node's number, held, gone, cleared, or a refusal's number
 --   Transition, transition     a reply, and the state after the call
 --   removed, allBelow, childrenOf    equations without a name's; numbers below a bound; a node's children
+--   arityFits, nodeFits              functor nodes of one symbol have k children; a node's own number of children is theirs
 --   early        the first refusal that the two lists decide, in document 01's order; refusal 1 never applies
 --   Late, Else   what the closure says of a call; where `early` refuses, that
 --   Refusal      the number of a call's refusal, 0 where it isn't refused; 8 and 9 come from the verdict of held and offered
@@ -10,7 +11,7 @@
 --   answer       the reply to any call, and the lists after it
 --   Runs         the answers to a list of calls, and the state after it
 use mathlib.Core.Path.{_≡_}
-use mathlib.Core.Bool.{Bool, true, _&&_, cond}
+use mathlib.Core.Bool.{Bool, true, not, _&&_, _||_, cond}
 use mathlib.Core.List.{List, [], _∷_, _++_}
 use mathlib.Core.Option.{Option, none, some}
 use Prim.Native.Nat.{ℕ}
@@ -55,12 +56,25 @@ abbrev pub childrenOf : Node → List ℕ
 childrenOf variable = []
 childrenOf (functor f cs) = cs
 
--- the refusals that need no closure: of a limit (specs/Limits), of an unknown node, of a name
+-- each functor node of symbol f among these has k children
+abbrev pub arityFits : (f k : ℕ) → List Node → Bool
+arityFits f k [] = true
+arityFits f k (variable ∷ ns) = arityFits f k ns
+arityFits f k (functor g ds ∷ ns) = (not (eqb g f) || eqb (length ds) k) && arityFits f k ns
+
+-- the node has as many children as each of those of its symbol
+abbrev pub nodeFits : Node → List Node → Bool
+nodeFits variable ns = true
+nodeFits (functor f cs) ns = arityFits f (length cs) ns
+
+-- the refusals that need no closure: of a limit (specs/Limits), of an unknown node, of a symbol, of a name
 abbrev pub early : State → Call → Option ℕ
 early s (declare n) =
     cond (leb nodeLimit (length (s .nodes))) (some 2)
     (cond (ltb childLimit (length (childrenOf n))) (some 3)
-    (cond (allBelow (length (s .nodes)) (childrenOf n)) none (some 4)))
+    (cond (allBelow (length (s .nodes)) (childrenOf n))
+    (cond (nodeFits n (s .nodes)) none (some 18))
+    (some 4)))
 early s (equate e room) =
     cond (ltb room bufferBytes) (some 5)
     (cond (ltb (e .left) (length (s .nodes)) && ltb (e .right) (length (s .nodes)))

@@ -15,7 +15,7 @@ pub data Same (s : State) : ℕ → ℕ → Type 0 where
   symmetry : {u v : ℕ} → Same s u v → Same s v u
   transitivity : {u v w : ℕ} → Same s u v → Same s v w → Same s u w
   down : {u v f g x y : ℕ} {cs ds : List ℕ} (i : ℕ) → Same s u v → NodeAt s u (functor f cs) → NodeAt s v (functor g ds)
-      → EqualLabels f cs g ds → ChildAt cs i x → ChildAt ds i y → Same s x y
+      → EqualLabels f g → ChildAt cs i x → ChildAt ds i y → Same s x y
 
 -- Below s u v: v lies below u
 pub data Below (s : State) : ℕ → ℕ → Type 0 where
@@ -33,7 +33,7 @@ pub record Clash (s : State) : Type 0 where
   pub ds : List ℕ
   pub at-u : NodeAt s u (functor f cs)
   pub at-v : NodeAt s v (functor g ds)
-  pub differ : EqualLabels f cs g ds → ⊥
+  pub differ : EqualLabels f g → ⊥
   pub joins : Same s u v
 
 pub record Cycle (s : State) : Type 0 where

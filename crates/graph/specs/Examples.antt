@@ -5,6 +5,7 @@
 --   Untidy       a field that a rule doesn't use is zero: a number there breaks each of the six rules
 --   Broken       lines that break a rule, or keep it and don't show the goal
 --   Refusals     the small examples of refusals 2 to 10, an example on each side of each limit, and the order of the refusals
+--   Arities      document 02 (c): one symbol, one number of children, refusal 18 and its place in the order
 use mathlib.Core.Path.{_≡_}
 use mathlib.Core.List.{List, [], _∷_, _++_}
 use mathlib.Core.Option.{none}
@@ -90,9 +91,13 @@ program-replies = number 0 ∷ number 1 ∷ number 2 ∷ held ∷ book.refused 8
 abbrev pub loop : State
 loop = stateWith (variable ∷ functor 5 (0 ∷ []) ∷ []) []
 
--- symbol 7 with one child, symbol 7 with two
-abbrev pub arities : State
-arities = stateWith (variable ∷ functor 7 (0 ∷ []) ∷ functor 7 (0 ∷ 0 ∷ []) ∷ []) []
+-- 0 variable, 1 = symbol 7 of 0
+abbrev pub unary : State
+unary = stateWith (variable ∷ functor 7 (0 ∷ []) ∷ []) []
+
+-- 0 variable, 1 and 2 symbols 7 and 8 of 0
+abbrev pub labels : State
+labels = stateWith (variable ∷ functor 7 (0 ∷ []) ∷ functor 8 (0 ∷ []) ∷ []) []
 
 -- a, m, b are 0, 1, 2; then f(a, m) = f(m, b)
 abbrev pub chain : State
@@ -120,8 +125,8 @@ pub record Starred : Type 0 where
   pub program-session : ExampleRun program-calls program-replies (stateWith program (e11 ∷ []))
   -- 0 = 1: cycle
   pub loop-cycle : Refusal loop (equate (equationOf 10 0 1) room) 9
-  -- symbol 7 with one child against symbol 7 with two: clash
-  pub arities-clash : Refusal arities (equate (equationOf 10 1 2) room) 8
+  -- symbol 7 with one child, then symbol 7 with two: the declaration is refused (document 02 (c))
+  pub arities-refused : Refusal unary (declare (functor 7 (0 ∷ 0 ∷ []))) 18
   -- f(a, m) = f(m, b): a same b
   pub a-same-b : Same chain 0 2
   -- 3 = 5: both faults, so clash
@@ -257,8 +262,8 @@ pub record Broken : Type 0 where
   pub down-variables : BreaksAt 1 (self-line 0 ∷ down-line 0 1 ∷ [])
   pub down-place-0 : BreaksAt 1 (equation-line 10 ∷ down-line 0 0 ∷ [])
   pub down-place-2 : BreaksAt 1 (equation-line 10 ∷ down-line 0 2 ∷ [])
-  -- symbol 7 with one child and with two: labels that aren't equal
-  pub down-labels : judge (offered arities (equationOf 10 1 2)) (same-goal 0 0) (equation-line 10 ∷ down-line 0 1 ∷ []) ≡ broken-line 1
+  -- symbols 7 and 8, with one child each: labels that aren't equal
+  pub down-labels : judge (offered labels (equationOf 10 1 2)) (same-goal 0 0) (equation-line 10 ∷ down-line 0 1 ∷ []) ≡ broken-line 1
   -- each line keeps its rule, and the last doesn't show the goal: 13
   pub cycle-wanted : judge pair cycle-goal (self-line 0 ∷ []) ≡ refused 13
   pub clash-wanted : judge pair clash-goal (equation-line 10 ∷ []) ≡ refused 13
@@ -266,7 +271,7 @@ pub record Broken : Type 0 where
   pub below-wanted : judge pair (below-goal 2 3) (equation-line 10 ∷ []) ≡ refused 13
   pub no-lines : judge pair (same-goal 2 3) [] ≡ refused 13
   -- lines that show a clash and a cycle pass
-  pub clash-shown : Passes (offered arities (equationOf 10 1 2)) clash-goal (equation-line 10 ∷ [])
+  pub clash-shown : Passes (offered labels (equationOf 10 1 2)) clash-goal (equation-line 10 ∷ [])
   pub cycle-shown : Passes (offered loop (equationOf 10 0 1)) cycle-goal (equation-line 10 ∷ child-line 1 1 ∷ joined-line 0 1 ∷ [])
 
 -- ---- refusals and limits
@@ -309,7 +314,7 @@ pub record Refusals : Type 0 where
   -- 10: withdraw 10 when fresh
   pub not-held : Refusal emptyState (withdraw 10) 10
   pub withdrawn : Refusal (stateWith one (equationOf 10 0 0 ∷ [])) (withdraw 10) 0
-  -- declare: 2 before 3 before 4
+  -- declare: 2 before 3 before 4; before 18: `Arities`
   pub two-before-three : Refusal (stateWith (replicate 64 variable) []) (declare (functor 1 (replicate 5 64))) 2
   pub three-before-four : Refusal emptyState (declare (functor 1 (replicate 5 0))) 3
   -- equate: 5 before 4 before 6 before 7 before 8
@@ -317,6 +322,40 @@ pub record Refusals : Type 0 where
   pub four-before-six : Refusal (many one 256) (equate (equationOf 0 0 1) room) 4
   pub six-before-seven : Refusal (many one 256) (equate (equationOf 0 0 0) room) 6
   pub seven-before-eight : Refusal (many (functor 1 [] ∷ functor 2 [] ∷ []) 256) (equate (equationOf 256 0 1) room) 7
+
+-- ---- one symbol, one number of children
+
+pub record Arities : Type 0 where
+  -- more, fewer or no children than an earlier functor node of the symbol; more: `arities-refused`
+  pub fewer-children : Refusal (stateWith (variable ∷ functor 7 (0 ∷ 0 ∷ []) ∷ []) []) (declare (functor 7 (0 ∷ []))) 18
+  pub no-children : Refusal unary (declare (functor 7 [])) 18
+  pub after-none : Refusal (stateWith (functor 7 [] ∷ []) []) (declare (functor 7 (0 ∷ []))) 18
+  -- as many, whichever they are
+  pub as-many : Refusal unary (declare (functor 7 (1 ∷ []))) 0
+  -- another symbol has a number of its own, its remainder by 64 being what it may
+  pub other-symbol : Refusal unary (declare (functor 8 (0 ∷ 0 ∷ []))) 0
+  pub other-remainder : Refusal unary (declare (functor 71 (0 ∷ 0 ∷ []))) 0
+  -- a variable is no functor node of symbol 0, nor has it a number of children to agree with
+  pub symbol-0 : Refusal (stateWith one []) (declare (functor 0 (0 ∷ []))) 0
+  pub symbol-0-again : Refusal (stateWith (functor 0 [] ∷ []) []) (declare (functor 0 (0 ∷ []))) 18
+  pub variable-again : Refusal unary (declare variable) 0
+  -- declare: 2 before 3 before 4 before 18
+  pub two-before-eighteen : Refusal (stateWith (functor 7 [] ∷ replicate 63 variable) []) (declare (functor 7 (0 ∷ []))) 2
+  pub three-before-eighteen : Refusal unary (declare (functor 7 (replicate 5 0))) 3
+  pub four-before-eighteen : Refusal unary (declare (functor 7 (0 ∷ 2 ∷ []))) 4
+  -- refused declarations, with 4 and with 18, fix no number
+  pub refused-fixes-none : ExampleRun
+      (declare (functor 7 (0 ∷ [])) ∷ declare variable ∷ declare (functor 7 (0 ∷ 0 ∷ [])) ∷ declare (functor 7 (0 ∷ [])) ∷ declare (functor 7 (1 ∷ 1 ∷ [])) ∷ [])
+      (book.refused 4 ∷ number 0 ∷ number 1 ∷ book.refused 18 ∷ number 2 ∷ [])
+      (stateWith (variable ∷ functor 7 (0 ∷ 0 ∷ []) ∷ functor 7 (1 ∷ 1 ∷ []) ∷ []) [])
+  -- a withdrawal frees no symbol, a clearing does
+  pub withdrawal-frees-none : ExampleRun
+      (declare variable ∷ declare (functor 7 (0 ∷ [])) ∷ equate (equationOf 10 1 1) room ∷ withdraw 10 ∷ declare (functor 7 []) ∷ [])
+      (number 0 ∷ number 1 ∷ held ∷ gone ∷ book.refused 18 ∷ []) unary
+  pub clear-frees : ExampleRun (declare (functor 7 []) ∷ declare (functor 7 (0 ∷ [])) ∷ book.clear ∷ declare variable ∷ declare (functor 7 (0 ∷ [])) ∷ [])
+      (number 0 ∷ book.refused 18 ∷ book.cleared ∷ number 0 ∷ number 1 ∷ []) unary
+  -- a clash is between two symbols
+  pub other-symbol-clash : Refusal (stateWith (variable ∷ functor 1 (0 ∷ []) ∷ functor 2 (0 ∷ 0 ∷ []) ∷ []) []) (equate (equationOf 5 1 2) room) 8
 
 -- ---- the single fact
 
@@ -327,3 +366,4 @@ pub record Examples : Type 0 where
   pub untidy : Untidy
   pub broken : Broken
   pub refusals : Refusals
+  pub arities : Arities

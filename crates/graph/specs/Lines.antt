@@ -12,7 +12,7 @@ use mathlib.Core.Option.{Option, none, some}
 use Prim.Native.Nat.{ℕ, zero, suc}
 use lib.ListN.{length, getElem?, getD}
 use lib.Dec.{eqb, ltb}
-use Rattle.graph.specs.State.{Node, variable, functor, Equation, State, sameLabel}
+use Rattle.graph.specs.State.{Node, variable, functor, Equation, State}
 use Rattle.graph.specs.Closure.{Same, Below}
 
 pub record Line : Type 0 where
@@ -59,7 +59,7 @@ functorAt ns u = try (getElem? ns u) functorOf
 
 -- the label test: `EqualLabels` as a Bool
 abbrev pub equalLabels : Functor → Functor → Bool
-equalLabels k m = sameLabel (k .symbol) (length (k .children)) (m .symbol) (length (m .children))
+equalLabels k m = eqb (k .symbol) (m .symbol)
 
 -- the child at a place, counted from 1
 abbrev pub placeAt : List ℕ → ℕ → Option ℕ

@@ -10,7 +10,7 @@ use Rattle.graph.specs.State.{Equation, State, functor, IsNode, NodeAt, 
 pub record Classes (s : State) : Type 0 where
   pub class : ℕ → ℕ
   pub equated : (e : Equation) → Held s e → class (e .left) ≡ class (e .right)
-  pub label : (u v f g : ℕ) (cs ds : List ℕ) → NodeAt s u (functor f cs) → NodeAt s v (functor g ds) → class u ≡ class v → EqualLabels f cs g ds
+  pub label : (u v f g : ℕ) (cs ds : List ℕ) → NodeAt s u (functor f cs) → NodeAt s v (functor g ds) → class u ≡ class v → EqualLabels f g
   pub place : (u v f g i x y : ℕ) (cs ds : List ℕ) → NodeAt s u (functor f cs) → NodeAt s v (functor g ds) → class u ≡ class v
       → ChildAt cs i x → ChildAt ds i y → class x ≡ class y
 

@@ -6,13 +6,13 @@
 --   NodeAt, ChildAt, Held   what stands at a place of a list
 --   FunctorAt    a functor node stands there
 --   nameHeld     a name is held
---   SameLabel, sameLabel    what a label is, as a fact and as a test: a symbol together with a number of children
---   EqualLabels  equal labels of two functor nodes
+--   EqualLabels  equal labels of two functor nodes: one symbol
+--   OneArity     functor nodes of one symbol have equally many children
 --   Proper       each child is an earlier node, each end of an equation a known node
 --   offered      the state with one equation more, document 01's held and offered together
 --   withOffer    the same where perhaps one equation is offered
 use mathlib.Core.Path.{_≡_}
-use mathlib.Core.Bool.{Bool, true, false, _&&_, cond}
+use mathlib.Core.Bool.{Bool, true, false, cond}
 use mathlib.Core.List.{List, [], _∷_, _++_}
 use mathlib.Core.Option.{Option, none, some}
 use Prim.Native.Nat.{ℕ, _<_}
@@ -65,16 +65,15 @@ abbrev pub nameHeld : ℕ → List Equation → Bool
 nameHeld n [] = false
 nameHeld n (e ∷ es) = cond (eqb (e .name) n) true (nameHeld n es)
 
--- symbol f with a children, symbol g with b: one label
-abbrev pub SameLabel : (f a g b : ℕ) → Type 0
-SameLabel f a g b = (f ≡ g) × (a ≡ b)
+-- a functor node's label is its symbol: of nodes with symbols f and g
+abbrev pub EqualLabels : (f g : ℕ) → Type 0
+EqualLabels f g = f ≡ g
 
-abbrev pub sameLabel : (f a g b : ℕ) → Bool
-sameLabel f a g b = eqb f g && eqb a b
-
--- of functor nodes with symbols f, g and children cs, ds
-abbrev pub EqualLabels : ℕ → List ℕ → ℕ → List ℕ → Type 0
-EqualLabels f cs g ds = SameLabel f (length cs) g (length ds)
+-- document 02 (c), the paper's signature: a symbol's arity is fixed. A state may break this, and then equal labels say too little of it; but no
+-- list of calls leads to such a state (proofs/ArityLaws), and no workspace holds one (`TermsShape` of store)
+abbrev pub OneArity : List Node → Type 0
+OneArity ns =
+    (u v f : ℕ) (cs ds : List ℕ) → getElem? ns u ≡ some (functor f cs) → getElem? ns v ≡ some (functor f ds) → length cs ≡ length ds
 
 pub record Proper (s : State) : Type 0 where
   pub earlier : (u f i v : ℕ) (cs : List ℕ) → NodeAt s u (functor f cs) → ChildAt cs i v → v < u

@@ -11,9 +11,9 @@ use Rattle.base.specs.Tab.{tab}
 use Rattle.base.proofs.AbsurdLaws.{zero-is-one}
 use Rattle.base.proofs.TabLaws.{tab-at, tab-past}
 use Rattle.graph.specs.Lines.{same, below, try, need, Functor, functorAt, equalLabels, placeAt, byReflexivity, byChild, downTo, downOf}
-use Rattle.store.specs.Views.{kindAt, symbolAt, arityAt, childrenAt, nodeAt, nodesOf}
+use Rattle.store.specs.Views.{kindAt, symbolAt, childrenAt, nodeAt, nodesOf}
 use Rattle.store.specs.declared.Terms.{Terms}
-use Rattle.store.proofs.ViewLaws.{nodes-length, functor-found, variable-found, children-length}
+use Rattle.store.proofs.ViewLaws.{nodes-length, functor-found, variable-found}
 use Rattle.proof_rules.specs.declared.Labels.{Labels}
 use Rattle.proof_rules.specs.declared.Labels.the-variants.{Equal, Differ, Missing}
 use Rattle.proof_rules.specs.Rules.{labelsCompared}
@@ -86,12 +86,8 @@ module _ (t : Terms) where
         pub labels-symbols : (symbolAt t u ≡ symbolAt t v → ⊥) → Compares Differ
         labels-symbols e = rw (functor-is u a f, functor-is v b g, ne-eqb _ _ e)
 
-        module _ (s : symbolAt t u ≡ symbolAt t v) where
-          pub labels-arities : (arityAt t u ≡ arityAt t v → ⊥) → Compares Differ
-          labels-arities e = rw (functor-is u a f, functor-is v b g, eq-eqb _ _ s, children-length t u, children-length t v, ne-eqb _ _ e)
-
-          pub labels-equal : arityAt t u ≡ arityAt t v → Compares Equal
-          labels-equal e = rw (functor-is u a f, functor-is v b g, eq-eqb _ _ s, children-length t u, children-length t v, eq-eqb _ _ e)
+        pub labels-equal : symbolAt t u ≡ symbolAt t v → Compares Equal
+        labels-equal e = rw (functor-is u a f, functor-is v b g, eq-eqb _ _ e)
 
     -- nodes with equal labels
     pub record Alike : Type 0 where

@@ -79,7 +79,6 @@ pub fn compare_labels<'a>(
     let b = v as usize;
     let kinds: &[u8] = kind;
     let symbols: &[u16] = symbol;
-    let arities: &[u8] = arity;
     if a >= n {
         return Labels::Missing;
     }
@@ -93,9 +92,6 @@ pub fn compare_labels<'a>(
         return Labels::Missing;
     }
     if symbols[a] != symbols[b] {
-        return Labels::Differ;
-    }
-    if arities[a] != arities[b] {
         return Labels::Differ;
     }
     Labels::Equal

@@ -11,7 +11,6 @@ use Rattle.graph.specs.Verdict.{clashes, cycles}
 use Rattle.graph.proofs.SolutionLaws.{classes-no-clash, solution-verdict}
 use Rattle.store.specs.Views.{symbolAt, childrenAt}
 use Rattle.store.specs.declared.Terms.{Terms}
-use Rattle.store.proofs.ViewLaws.{children-length}
 use Rattle.solve_classes.specs.Table.{class}
 use Rattle.solve_trace.specs.Nodes.{Nodes, Formed}
 use Rattle.solve_trace.proofs.NodeLaws.{functor-found}
@@ -48,7 +47,7 @@ module _ (g : Terms) (s : State) (F : Formed g) (N : Nodes g s) (t tr : List ℕ
         ds = childrenAt g v;
         at-u = functor-found g s N u (C .left);
         at-v = functor-found g s N v (C .right);
-        differ = λ q. C .differ (q .0, sym (children-length g u) ∙ q .1 ∙ children-length g v);
+        differ = C .differ;
         joined = C .joined;
       })
 

@@ -41,7 +41,7 @@ pub record Clashes (s : State) (t : List ℕ) (u v : ℕ) : Type 0 where
   pub ds : List ℕ
   pub at-u : NodeAt s u (functor f cs)
   pub at-v : NodeAt s v (functor g ds)
-  pub differ : EqualLabels f cs g ds → ⊥
+  pub differ : EqualLabels f g → ⊥
   pub joined : class t u ≡ class t v
 
 pub record Circles (s : State) (t : List ℕ) : Type 0 where

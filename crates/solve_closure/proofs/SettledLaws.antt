@@ -5,7 +5,7 @@ use mathlib.Core.List.{List}
 use mathlib.Core.Option.{some}
 use Prim.Native.Nat.{ℕ, _<_}
 use native.Mathlib.Omega.{arith}
-use lib.ListN.{length, getD, take}
+use lib.ListN.{getD, take}
 use Rattle.graph.specs.State.{Equation, State, Held, Proper}
 use Rattle.graph.specs.Closure.{Clash}
 use Rattle.graph.specs.Solution.{Classes}
@@ -17,7 +17,7 @@ use Rattle.store.specs.Views.{symbolAt, childrenAt, equationAt, stateFrom}
 use Rattle.store.specs.Shape.{Shape}
 use Rattle.store.specs.declared.Terms.{Terms}
 use Rattle.store.specs.declared.Equations.{Equations}
-use Rattle.store.proofs.ViewLaws.{children-length, child-known, equations-length, equation-found}
+use Rattle.store.proofs.ViewLaws.{child-known, equations-length, equation-found}
 use Rattle.solve_trace.specs.Nodes.{Nodes, Formed, EquationEnds}
 use Rattle.solve_trace.specs.Trace.{Traced, start}
 use Rattle.solve_trace.specs.Steps.{TraceFits, PairsJoined}
@@ -58,7 +58,7 @@ module _ (g : Terms) (s : State) (N : Nodes g s) (t : List ℕ) (inside : Sound 
         ds = childrenAt g v;
         at-u = functor-found g s N u (C .left);
         at-v = functor-found g s N v (C .right);
-        differ = λ q. C .differ (q .0, sym (children-length g u) ∙ q .1 ∙ children-length g v);
+        differ = C .differ;
         joins = inside u v (known g s N u (C .left .known)) (known g s N v (C .right .known)) (C .joined);
       }
 
@@ -71,10 +71,7 @@ module _ (g : Terms) (s : State) (N : Nodes g s) (t : List ℕ) (inside : Sound 
           label = λ u v f h cs ds n o q.
               let K = functor-known g s N u f cs n in
               let L = functor-known g s N v h ds o in
-              let B = closed u v (K .0) (L .0) q .alike in (
-                sym (K .1 .0) ∙ B .0 ∙ L .1 .0,
-                ap length (sym (K .1 .1)) ∙ children-length g u ∙ B .1 ∙ sym (children-length g v) ∙ ap length (L .1 .1),
-              );
+              sym (K .1 .0) ∙ closed u v (K .0) (L .0) q .alike ∙ L .1 .0;
           place = λ u v f h i x y cs ds n o q c d.
               let K = functor-known g s N u f cs n in
               let L = functor-known g s N v h ds o in

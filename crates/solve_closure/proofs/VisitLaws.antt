@@ -12,11 +12,13 @@ use Rattle.base.proofs.AbsurdLaws.{zero-is-one}
 use Rattle.base.proofs.CaseLaws.{same-or-other}
 use Rattle.solve_classes.specs.Table.{class}
 use Rattle.store.specs.Views.{kindAt, arityAt, childAt}
+use Rattle.store.specs.Heads.{noHead, Meets, variable, first, further}
 use Rattle.store.specs.declared.Terms.{Terms}
 use Rattle.solve_trace.specs.Nodes.{Nodes, IsFunctor, Alike, Formed}
 use Rattle.solve_trace.specs.Steps.{TraceFits, Extends, PairsJoined, Places}
-use Rattle.solve_closure.specs.Rounds.{Clashing, Agree, Meeting, Pair, noHead, Meets, variable, first, further, Round, Rounds}
+use Rattle.solve_closure.specs.Rounds.{Clashing, Agree, Meeting, Pair, Round, Rounds}
 use Rattle.solve_trace.proofs.StepLaws.{extends-none, extends-more, extends-only}
+use Rattle.solve_trace.proofs.NodeLaws.{alike-arities}
 use Rattle.solve_trace.proofs.ReasonLaws.{by-place}
 
 -- head has, for a root, `noHead` or a functor node of that class
@@ -59,11 +61,11 @@ module _ (g : Terms) (u v : ℕ) (t tr : List ℕ) (n : ℕ) where
         agrees = λ q. zero-is-one cc;
       }
 
-  pub pair-agree : {r ts : List ℕ} {m : ℕ} → IsFunctor g u → IsFunctor g v → Alike g u v
+  pub pair-agree : {r ts : List ℕ} {m : ℕ} → Formed g → IsFunctor g u → IsFunctor g v → Alike g u v
       → PairsJoined (Places (g .child) u v (arityAt g u)) (childAt g u) (childAt g v) (arityAt g u) t tr n r ts m → Pair g u v t tr n r ts m false
-  pair-agree Fu Fv A P =
+  pair-agree F Fu Fv A P =
       record {
-        extends = extends-only _ _ (λ s N t j e h. by-place g t s u v j N Fu Fv A e h) (P .extends);
+        extends = extends-only _ _ (λ s N t j e h. by-place g t s u v j N F Fu Fv A e h) (P .extends);
         clashes = λ q. zero-is-one cc;
         agrees = λ q e. record { alike = A; places = λ j h. rw (P .extends .same e) at (P .joined j h) };
       }
@@ -110,7 +112,7 @@ module _ (g : Terms) (u : ℕ) (t tr : List ℕ) (n : ℕ) (head : List ℕ) (A 
         agrees = λ q e Fu.
             record {
               found = omega (arith, now-u (class t u) refl, below);
-              agree = rw (now-u (class t u) refl) (record { alike = (refl, refl); places = λ j h. refl });
+              agree = rw (now-u (class t u) refl) (record { alike = refl; places = λ j h. refl });
             };
       }
     where
@@ -213,18 +215,16 @@ module _ (g : Terms) (t tr : List ℕ) (n : ℕ) where
         }
 
   -- two nodes that agree with one head agree
-  pub passed-all : {r ts : List ℕ} {m : ℕ} {head : List ℕ} (x y : ℕ) → Passed g t tr n 0 r ts m head → Round g t tr n r ts m false x y
-  passed-all {r} {ts} {m} {head} x y P =
+  pub passed-all : {r ts : List ℕ} {m : ℕ} {head : List ℕ} (x y : ℕ) → Formed g → Passed g t tr n 0 r ts m head → Round g t tr n r ts m false x y
+  passed-all {r} {ts} {m} {head} x y F P =
       record {
         extends = P .extends;
         clashes = λ q. zero-is-one cc;
         closes = λ q e u v Fu Fv j.
             let A = P .agrees e u (omega arith) Fu .agree in
             let B : Agree g r v (getD head (class r u) 0) = rw j (P .agrees e v (omega arith) Fv .agree) in
-            record {
-              alike = (A .alike .0 ∙ sym (B .alike .0), A .alike .1 ∙ sym (B .alike .1));
-              places = λ i h. A .places i h ∙ sym (B .places i (omega (arith, A .alike .1, B .alike .1)));
-            };
+            let l = A .alike ∙ sym (B .alike) in
+            record { alike = l; places = λ i h. A .places i h ∙ sym (B .places i (omega (arith, alike-arities g F u v Fu Fv l))) };
       }
 
   pub rounds-clash : {r ts : List ℕ} {m : ℕ} {p us : List ℕ} {k : ℕ} {clash : Bool} {x y : ℕ} → Extends (Nodes g) t tr n r ts m

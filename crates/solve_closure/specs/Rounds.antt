@@ -2,23 +2,17 @@
 --   Clashing  two functor nodes of one class and different labels: document 01's clash, as the arrays have it
 --   Agree     two functor nodes have one label, and children of one class, place by place
 --   Closed    functor nodes of one class agree: the table keeps the rules of the closure
---   noHead    stands for the head of a class that has none: no node has this number
 --   Meeting   what a pair asks: two functor nodes of one class; Pair: what it gives
---   Meets     what a node finds at its visit: no head of its class yet, or a head to agree with
 --   Round     a round over all nodes; Rounds: rounds to the end
 use mathlib.Core.Path.{_≡_}
 use mathlib.Core.Bool.{Bool, true, false}
 use mathlib.Core.List.{List}
-use Prim.Native.Nat.{ℕ, _≤_, _<_}
-use lib.ListN.{getD, set}
+use Prim.Native.Nat.{ℕ, _<_}
 use Rattle.solve_classes.specs.Table.{class}
 use Rattle.store.specs.Views.{arityAt, childAt}
 use Rattle.store.specs.declared.Terms.{Terms}
 use Rattle.solve_trace.specs.Nodes.{Nodes, IsFunctor, Alike, Formed}
 use Rattle.solve_trace.specs.Steps.{TraceFits, Extends}
-
-abbrev pub noHead : ℕ
-noHead = 64
 
 pub record Clashing (g : Terms) (t : List ℕ) (u v : ℕ) : Type 0 where
   pub left : IsFunctor g u
@@ -46,12 +40,6 @@ pub record Pair (g : Terms) (u v : ℕ) (t tr : List ℕ) (n : ℕ) (r ts : List
   pub extends : Extends (Nodes g) t tr n r ts m
   pub clashes : clash ≡ true → Alike g u v → ⊥
   pub agrees : clash ≡ false → m ≡ n → Agree g t u v
-
--- node u of class c, at its visit: a variable meets no head, nor does a first functor node, which becomes the head; a further one meets it
-pub data Meets (head : List ℕ) (c u kind : ℕ) : List ℕ → ℕ → Type 0 where
-  variable : (kind ≡ 1 → ⊥) → Meets head c u kind head noHead
-  first : kind ≡ 1 → noHead ≤ getD head c 0 → Meets head c u kind (set head c u) noHead
-  further : kind ≡ 1 → getD head c 0 < noHead → Meets head c u kind head (getD head c 0)
 
 -- a round over all nodes: a clash, or, where nothing was merged, the table is closed
 pub record Round (g : Terms) (t tr : List ℕ) (n : ℕ) (r ts : List ℕ) (m : ℕ) (clash : Bool) (x y : ℕ) : Type 0 where

@@ -6,7 +6,7 @@ ghost use Rattle.store.specs.Views.{terms};
 ghost use Rattle.solve_trace.specs.Nodes.{Formed};
 ghost use Rattle.solve_trace.specs.Steps.{TraceFits};
 ghost use Prim.Native.Nat.{_<_};
-ghost use Rattle.solve_closure.specs.Rounds.{Meeting, Pair, Meets, Round, Rounds};
+ghost use Rattle.solve_closure.specs.Rounds.{Meeting, Pair, Round, Rounds};
 ghost use Rattle.solve_closure.specs.Settled.{Given, ArraysHold, RoundsEnded, Settled, OfferFits, Before};
 ghost use Rattle.store.specs.declared.Terms.{Terms};
 
@@ -48,15 +48,6 @@ fn pair<'a>(
             right: v,
         };
     }
-    if arity[u] != arity[v] {
-        return Settling {
-            table,
-            steps,
-            clash: true,
-            left: u,
-            right: v,
-        };
-    }
     let p = solve_trace::join_children(table, trace, steps, u, v, base::wide(arity[u]), child);
     let t = p.table;
     Settling {
@@ -66,25 +57,6 @@ fn pair<'a>(
         left: u,
         right: v,
     }
-}
-
-// Stands for the head of a class that has none.
-const NO_HEAD: u8 = 64;
-
-// The head of class `c` that the functor node `u` meets. Where there is none yet, `u` becomes it, and none is met; nor by a variable.
-fn visit(head: &mut [u8; 64], c: usize, u: usize, kind: u8) -> u8
-    requires { ⌜ (length (now head) ≡ 64) × (c < 64) × (u < 64) ⌝ }
-    ensures { λ r. ⌜ Meets (now (head .entry)) c u kind (now (head .exit)) r ⌝ }
-{
-    if kind != 1 {
-        return NO_HEAD;
-    }
-    let v = head[c];
-    if v < NO_HEAD {
-        return v;
-    }
-    head[c] = u as u8;
-    NO_HEAD
 }
 
 // One round, from the highest node down. A head is kept for each root from here on.
@@ -105,15 +77,15 @@ fn round<'a>(
     ensures { λ g r. ⌜ Round g
         table (now (trace .entry)) steps (r .table) (now (trace .exit)) (r .steps) (r .clash) (r .left) (r .right) ⌝ }
 {
-    let mut head = [NO_HEAD; 64];
+    let mut head = [store::NO_HEAD; 64];
     let mut t = table;
     let mut k = steps;
     let mut i = n;
     while 0 < i {
         i -= 1;
         let c = base::wide(t[i]);
-        let v = visit(&mut head, c, i, kind[i]);
-        if v < NO_HEAD {
+        let v = store::visit(&mut head, c, i, kind[i]);
+        if v < store::NO_HEAD {
             let o = pair(t, trace, k, i, base::wide(v), n, kind, symbol, arity, child);
             if o.clash {
                 return o;

@@ -1,15 +1,15 @@
--- Functor nodes of a state whose nodes are those of the arrays; well-shaped arrays are formed.
-use mathlib.Core.Path.{_≡_}
+-- Functor nodes of a state whose nodes are those of the arrays; well-shaped arrays are formed; alike nodes have equally many children.
+use mathlib.Core.Path.{_≡_, sym, _∙_}
 use mathlib.Core.List.{List}
 use Prim.Native.Nat.{ℕ, _≤_, _<_}
 use native.Mathlib.Omega.{arith}
 use lib.ListN.{length}
 use Rattle.graph.specs.State.{functor, State, IsNode, NodeAt}
-use Rattle.store.specs.Views.{symbolAt, childrenAt}
+use Rattle.store.specs.Views.{symbolAt, arityAt, childrenAt}
 use Rattle.store.specs.Shape.{TermsShape}
 use Rattle.store.specs.declared.Terms.{Terms}
 use Rattle.store.proofs.ViewLaws as view
-use Rattle.solve_trace.specs.Nodes.{Nodes, IsFunctor, Formed}
+use Rattle.solve_trace.specs.Nodes.{Nodes, IsFunctor, Formed, Alike}
 
 module _ (g : Terms) (s : State) (N : Nodes g s) where
   pub functor-found : (u : ℕ) → IsFunctor g u → NodeAt s u (functor (symbolAt g u) (childrenAt g u))
@@ -36,4 +36,11 @@ formed g S =
       most = S .few;
       arities = λ u h. S .arities u (omega (arith, S .few));
       earlier = λ u j h. S .earlier u j (omega (arith, S .few));
+      one-arity = S .one-arity;
     }
+
+pub alike-arities : (g : Terms) → Formed g → (u v : ℕ) → IsFunctor g u → IsFunctor g v → Alike g u v → arityAt g u ≡ arityAt g v
+alike-arities g F u v Fu Fv A =
+    sym (view.children-length g u)
+    ∙ F .one-arity u v (symbolAt g u) (childrenAt g u) (childrenAt g v) (view.functor-found g u (Fu .known) (Fu .kind)) (rw A (view.functor-found g v (Fv .known) (Fv .kind)))
+    ∙ view.children-length g v

@@ -1,5 +1,5 @@
 -- The reasons that arrays give.
-use mathlib.Core.Path.{_≡_, sym, _∙_}
+use mathlib.Core.Path.{_≡_}
 use mathlib.Core.List.{List}
 use Prim.Native.Nat.{ℕ, _<_}
 use native.Mathlib.Omega.{arith}
@@ -8,11 +8,11 @@ use Rattle.graph.specs.State.{State}
 use Rattle.solve_classes.specs.Table.{class}
 use Rattle.store.specs.Views.{arityAt, childAt}
 use Rattle.store.specs.declared.Terms.{Terms}
-use Rattle.store.proofs.ViewLaws.{children-length, child-found}
-use Rattle.solve_trace.specs.Nodes.{Nodes, IsFunctor, Alike, EquationEnds}
+use Rattle.store.proofs.ViewLaws.{child-found}
+use Rattle.solve_trace.specs.Nodes.{Nodes, IsFunctor, Formed, Alike, EquationEnds}
 use Rattle.solve_trace.specs.Packing.{entryOf}
 use Rattle.solve_trace.specs.Trace.{Reason, equation, down}
-use Rattle.solve_trace.proofs.NodeLaws.{functor-found}
+use Rattle.solve_trace.proofs.NodeLaws.{functor-found, alike-arities}
 
 -- the entry e is the reason d
 pub entry-is : {s : State} {t : List ℕ} {d x y : ℕ} (e : ℕ) → e ≡ d → Reason s t d x y → Reason s t e x y
@@ -21,9 +21,8 @@ entry-is e q w = rw q w
 pub by-equation : (m : ℕ) (left right t : List ℕ) (s : State) (k : ℕ) → k < m → EquationEnds m left right s → Reason s t k (getD left k 0) (getD right k 0)
 by-equation m left right t s k h E = rw (← E .lefts k h, ← E .rights k h) (equation k (E .found k h))
 
-pub by-place : (g : Terms) (t : List ℕ) (s : State) (u v j : ℕ) → Nodes g s → IsFunctor g u → IsFunctor g v → Alike g u v → class t u ≡ class t v
+pub by-place : (g : Terms) (t : List ℕ) (s : State) (u v j : ℕ) → Nodes g s → Formed g → IsFunctor g u → IsFunctor g v → Alike g u v → class t u ≡ class t v
     → j < arityAt g u → Reason s t (entryOf u v j) (childAt g u j) (childAt g v j)
-by-place g t s u v j N Fu Fv A e h =
-    down u v j e (functor-found g s N u Fu) (functor-found g s N v Fv)
-    (A .0, children-length g u ∙ A .1 ∙ sym (children-length g v))
-    (child-found g u j h) (child-found g v j (omega (arith, A .1)))
+by-place g t s u v j N F Fu Fv A e h =
+    down u v j e (functor-found g s N u Fu) (functor-found g s N v Fv) A
+    (child-found g u j h) (child-found g v j (omega (arith, alike-arities g F u v Fu Fv A)))

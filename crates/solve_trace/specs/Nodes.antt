@@ -1,6 +1,6 @@
 -- What the solver asks of nodes and equations in lent arrays. `TermsShape` of store gives `Formed`.
 --   IsFunctor      node u is known, and a functor node
---   Formed         nodes and children within the limits, each child an earlier node
+--   Formed         nodes and children within the limits, each child an earlier node, as many for each node of a symbol
 --   Alike          equal labels, read off the arrays
 --   EquationEnds   the equations of a state have the ends that two arrays have
 use mathlib.Core.Path.{_≡_}
@@ -9,7 +9,7 @@ use mathlib.Core.Option.{some}
 use Prim.Native.Nat.{ℕ, _≤_, _<_}
 use lib.ListN.{getD, getElem?}
 use Rattle.graph.specs.Limits.{nodeLimit, childLimit}
-use Rattle.graph.specs.State.{Equation, State, SameLabel}
+use Rattle.graph.specs.State.{Equation, State, EqualLabels, OneArity}
 use Rattle.store.specs.Views.{kindAt, symbolAt, arityAt, childAt, nodesOf}
 use Rattle.store.specs.declared.Terms.{Terms}
 
@@ -25,9 +25,10 @@ pub record Formed (g : Terms) : Type 0 where
   pub most : g .count ≤ nodeLimit
   pub arities : (u : ℕ) → u < g .count → arityAt g u ≤ childLimit
   pub earlier : (u j : ℕ) → u < g .count → j < arityAt g u → childAt g u j < u
+  pub one-arity : OneArity (nodesOf g)
 
 abbrev pub Alike : Terms → ℕ → ℕ → Type 0
-Alike g u v = SameLabel (symbolAt g u) (arityAt g u) (symbolAt g v) (arityAt g v)
+Alike g u v = EqualLabels (symbolAt g u) (symbolAt g v)
 
 -- the state's equations have, at their first m places, the ends that the arrays have there
 pub record EquationEnds (m : ℕ) (left right : List ℕ) (s : State) : Type 0 where

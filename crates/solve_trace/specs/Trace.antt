@@ -15,7 +15,7 @@ use Rattle.solve_trace.specs.Packing.{entryOf}
 pub data Reason (s : State) (t : List ℕ) : ℕ → ℕ → ℕ → Type 0 where
   equation : {e : Equation} (k : ℕ) → getElem? (s .equations) k ≡ some e → Reason s t k (e .left) (e .right)
   down : (p q j : ℕ) {f g x y : ℕ} {cs ds : List ℕ} → class t p ≡ class t q → NodeAt s p (functor f cs) → NodeAt s q (functor g ds)
-      → EqualLabels f cs g ds → ChildAt cs j x → ChildAt ds j y → Reason s t (entryOf p q j) x y
+      → EqualLabels f g → ChildAt cs j x → ChildAt ds j y → Reason s t (entryOf p q j) x y
 
 pub data Traced (s : State) : List ℕ → List ℕ → Type 0 where
   start : {t : List ℕ} → Fresh t → Traced s [] t

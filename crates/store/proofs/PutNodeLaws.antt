@@ -1,5 +1,5 @@
 -- One node more at the end: the list of nodes gets longer by it, and the shape stays.
-use mathlib.Core.Path.{_≡_, refl, sym, ap, _∙_}
+use mathlib.Core.Path.{_≡_, refl, sym, ap, _∙_, subst}
 use mathlib.Core.Logic.{⊎-elim}
 use mathlib.Core.List.{List, [], _∷_, _++_}
 use Prim.Native.Nat.{ℕ, _+_, _*_, _-_, _≤_, _<_}
@@ -8,7 +8,8 @@ use native.Mathlib.Omega.{arith}
 use lib.ListN.{length, take, getD, set, length-set, List·getD-append}
 use lib.Seq.{getD-set-same, getD-set-other, set-getD, paste, length-paste, take-paste, drop-paste, getD-take, getD-drop, getD-append-add, length-take-le}
 use Rattle.graph.specs.Limits.{nodeLimit}
-use Rattle.graph.specs.State.{variable, functor}
+use Rattle.graph.specs.State.{variable, functor, OneArity}
+use Rattle.graph.proofs.ArityLaws.{one-arity-declared}
 use Rattle.base.specs.Tab.{tab}
 use Rattle.base.proofs.TabLaws.{tab-same, tab-put, tab-list}
 use Rattle.store.specs.Views.{terms, kindAt, symbolAt, arityAt, childAt, childrenAt, nodeAt, nodesOf}
@@ -25,6 +26,13 @@ module _ (t : Terms) (room : t .count < length (t .kind)) where
   same-kind : TermsShape t → t .count < nodeLimit → set (t .kind) (t .count) 0 ≡ t .kind
   same-kind s h = ap (set (t .kind) (t .count)) (sym (s .unused-nodes (t .count) (omega arith) h)) ∙ set-getD (t .kind) (t .count) 0
 
+  variable-nodes : nodesOf (withVariable t) ≡ nodesOf t ++ (variable ∷ [])
+  unfolding nodesOf
+  variable-nodes =
+      tab-put (t .count) (t .count + 1) (nodeAt t) (nodeAt (withVariable t)) variable refl
+      (λ i h. rw (getD-set-other (t .kind) (t .count) i 0 0 (λ e. omega arith)))
+      (rw (getD-set-same (t .kind) (t .count) 0 0 room))
+
   variable-shape : t .count < nodeLimit → TermsShape t → TermsShape (withVariable t)
   variable-shape h s =
       let k : set (t .kind) (t .count) 0 ≡ t .kind = same-kind s h in
@@ -40,14 +48,8 @@ module _ (t : Terms) (room : t .count < length (t .kind)) where
         unused-children = s .unused-children;
         variables = λ u l e. s .variables u l (rw k at e);
         unused-nodes = λ u l w. rw k (s .unused-nodes u (omega arith) w);
+        one-arity = subst OneArity (sym variable-nodes) (one-arity-declared (nodesOf t) variable refl (s .one-arity));
       }
-
-  variable-nodes : nodesOf (withVariable t) ≡ nodesOf t ++ (variable ∷ [])
-  unfolding nodesOf
-  variable-nodes =
-      tab-put (t .count) (t .count + 1) (nodeAt t) (nodeAt (withVariable t)) variable refl
-      (λ i h. rw (getD-set-other (t .kind) (t .count) i 0 0 (λ e. omega arith)))
-      (rw (getD-set-same (t .kind) (t .count) 0 0 room))
 
   -- the struct by what was stored: each value is a fact of its own
   pub puts-variable : t .count < nodeLimit → (k : ℕ) → k ≡ 0
@@ -85,7 +87,7 @@ module _ (l : List ℕ) (at : ℕ) (s : List ℕ) (fits : at + length s ≤ leng
 
 -- ---- a functor node
 
-module _ (t : Terms) (f : ℕ) (cs : List ℕ) (S : TermsShape t) (R : Room t cs) where
+module _ (t : Terms) (f : ℕ) (cs : List ℕ) (S : TermsShape t) (R : Room t f cs) where
   fits : 4 * t .count + length cs ≤ length (t .child)
   fits = omega (arith, R .room, R .few, S .child-size)
 
@@ -158,6 +160,7 @@ module _ (t : Terms) (f : ℕ) (cs : List ℕ) (S : TermsShape t) (R : Room t cs
     unused-children = λ u j l h w. ⊎-elim (λ q. unused-new u j q h w) (λ d. child-other u j d w ∙ S .unused-children u j l (rw (arity-other u d) at h) w) (same-or-other (t .count) u);
     variables = λ u l e. ⊎-elim (λ q. absurd (variable-new u q e)) (λ d. variable-other u d l e) (same-or-other (t .count) u);
     unused-nodes = λ u h w. kind-other u (λ q. omega arith) ∙ S .unused-nodes u (omega arith) w;
+    one-arity = subst OneArity (sym functor-nodes) (one-arity-declared (nodesOf t) (functor f cs) (R .fits) (S .one-arity));
   }
     where
       earlier-new : (u j : ℕ) → u ≡ t .count → j < arityAt (withFunctor t f cs) u → childAt (withFunctor t f cs) u j < u
@@ -185,7 +188,7 @@ module _ (t : Terms) (f : ℕ) (cs : List ℕ) (S : TermsShape t) (R : Room t cs
           let v : (symbolAt t u ≡ 0) × (arityAt t u ≡ 0) = S .variables u l (sym (kind-other u d) ∙ e) in
           (symbol-other u d ∙ v .0, arity-other u d ∙ v .1)
 
-pub puts-functor : (t : Terms) (f : ℕ) (cs : List ℕ) → Room t cs
+pub puts-functor : (t : Terms) (f : ℕ) (cs : List ℕ) → Room t f cs
     → (k : ℕ) → k ≡ 1 → (a : ℕ) → a ≡ length cs → (child : List ℕ) → child ≡ paste (t .child) (4 * t .count) cs (length cs)
     → PutsNode t (functor f cs) (withFunctor t f cs)
     (terms (t .count + 1) (set (t .kind) (t .count) k) (set (t .symbol) (t .count) f) (set (t .arity) (t .count) a) child)

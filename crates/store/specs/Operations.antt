@@ -13,7 +13,7 @@ use lib.Seq.{paste}
 use lib.Dec.{ltb}
 use Rattle.graph.specs.Limits.{nodeLimit, childLimit}
 use Rattle.graph.specs.State.{Node, equationOf, nameHeld}
-use Rattle.graph.specs.Book.{removed, allBelow}
+use Rattle.graph.specs.Book.{removed, allBelow, arityFits}
 use Rattle.base.specs.Tab.{tab}
 use Rattle.store.specs.Views.{terms, equations, nodesOf, equationsOf}
 use Rattle.store.specs.Shape.{TermsShape, EquationsShape}
@@ -36,11 +36,12 @@ withFunctor t f cs =
     terms (t .count + 1) (set (t .kind) (t .count) 1) (set (t .symbol) (t .count) f) (set (t .arity) (t .count) (length cs))
     (paste (t .child) (4 * t .count) cs (length cs))
 
--- there is room for a node with these children, each a node
-pub record Room (t : Terms) (cs : List ℕ) : Type 0 where
+-- there is room for a functor node with this symbol and these children, each a node, as many as those of its symbol have
+pub record Room (t : Terms) (f : ℕ) (cs : List ℕ) : Type 0 where
   pub room : t .count < nodeLimit
   pub few : length cs ≤ childLimit
   pub known : allBelow (t .count) cs ≡ true
+  pub fits : arityFits f (length cs) (nodesOf t) ≡ true
 
 -- r is t with the node n; as a struct it is `whole`
 pub record PutsNode (t : Terms) (n : Node) (whole r : Terms) : Type 0 where

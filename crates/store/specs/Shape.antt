@@ -1,13 +1,14 @@
 -- Which arrays a workspace may hold, its solution aside (document 01, "Workspace and terms").
 --   TermsShape      counts in range, kinds 0 or 1, at most childLimit children, each an earlier node, zero in every unused place,
---                   a variable's symbol, number of children and children among them
+--                   a variable's symbol, number of children and children among them; functor nodes of one symbol have equally many children
 --   EquationsShape  count in range, known ends, names all different, zero in every unused place
 --   Shape           both
 use mathlib.Core.Path.{_≡_}
 use Prim.Native.Nat.{ℕ, _*_, _≤_, _<_}
 use lib.ListN.{length, getD}
 use Rattle.graph.specs.Limits.{nodeLimit, childLimit, equationLimit}
-use Rattle.store.specs.Views.{kindAt, symbolAt, arityAt, childAt}
+use Rattle.graph.specs.State.{OneArity}
+use Rattle.store.specs.Views.{kindAt, symbolAt, arityAt, childAt, nodesOf}
 use Rattle.store.specs.declared.Terms.{Terms}
 use Rattle.store.specs.declared.Equations.{Equations}
 
@@ -23,6 +24,7 @@ pub record TermsShape (t : Terms) : Type 0 where
   pub unused-children : (u j : ℕ) → u < nodeLimit → arityAt t u ≤ j → j < childLimit → childAt t u j ≡ 0
   pub variables : (u : ℕ) → u < nodeLimit → kindAt t u ≡ 0 → (symbolAt t u ≡ 0) × (arityAt t u ≡ 0)
   pub unused-nodes : (u : ℕ) → t .count ≤ u → u < nodeLimit → kindAt t u ≡ 0
+  pub one-arity : OneArity (nodesOf t)
 
 -- n is the number of nodes
 pub record EquationsShape (n : ℕ) (e : Equations) : Type 0 where

@@ -1,14 +1,16 @@
 // The fixed arrays that a workspace is made of: nodes and held equations.
 ghost use mathlib.Core.Path.{_≡_};
-ghost use Prim.Native.Nat.{_+_, _≤_, _<_};
+ghost use mathlib.Core.List.{List};
+ghost use Prim.Native.Nat.{ℕ, _+_, _≤_, _<_};
 ghost use mathlib.Core.Bool.{true};
 ghost use lib.ListN.{length, set};
 ghost use lib.Seq.{paste};
 ghost use Rattle.graph.specs.Limits.{nodeLimit, equationLimit};
 ghost use Rattle.graph.specs.State.{Node};
-ghost use Rattle.graph.specs.Book.{allBelow};
-ghost use Rattle.store.specs.Views.{freshTerms, freshEquations};
+ghost use Rattle.graph.specs.Book.{allBelow, arityFits};
+ghost use Rattle.store.specs.Views.{terms, nodesOf, freshTerms, freshEquations};
 ghost use Rattle.store.specs.Operations.{First, Room, PutsNode, PutsEquation, Removes, withVariable, withFunctor, closed};
+ghost use Rattle.store.specs.Heads.{Meets};
 
 // The declared nodes: the first `count` places of each array are used. Kind 0 is a variable, 1 a functor node. The children of
 // node u stand at places 4 u to 4 u + 3.
@@ -48,6 +50,50 @@ pub fn all_below(children: &[u16], n: u16) -> bool
         i += 1;
     }
     true
+}
+
+// Whether each functor node of symbol f among the first n has k children. No way out in the middle, so that the compiler can take many
+// nodes at a time.
+pub fn arity_fits<'a>(
+    kind: &'a [u8; 64],
+    symbol: &'a [u16; 64],
+    arity: &'a [u8; 64],
+    n: usize,
+    f: u16,
+    k: u8,
+) -> bool
+    requires { ⌜ n ≤ nodeLimit ⌝ }
+    ensures { λ r. ⌜ ((child : List ℕ) → r ≡ arityFits f k (nodesOf (terms n (now (kind .entry)) (now (symbol .entry)) (now (arity .entry)) child))) ⌝ }
+{
+    let kinds: &[u8] = kind;
+    let symbols: &[u16] = symbol;
+    let arities: &[u8] = arity;
+    let mut ok = true;
+    let mut u = 0;
+    while u < n {
+        ok = ok & ((kinds[u] != 1) | (symbols[u] != f) | (arities[u] == k));
+        u += 1;
+    }
+    ok
+}
+
+// Stands for the head of a group that has none.
+pub const NO_HEAD: u8 = 64;
+
+// The head of group `c` that the functor node `u` meets. Where there is none yet, `u` becomes it, and none is met; nor by a variable.
+pub fn visit(head: &mut [u8; 64], c: usize, u: usize, kind: u8) -> u8
+    requires { ⌜ (length (now head) ≡ 64) × (c < 64) × (u < 64) ⌝ }
+    ensures { λ r. ⌜ Meets (now (head .entry)) c u kind (now (head .exit)) r ⌝ }
+{
+    if kind != 1 {
+        return NO_HEAD;
+    }
+    let v = head[c];
+    if v < NO_HEAD {
+        return v;
+    }
+    head[c] = u as u8;
+    NO_HEAD
 }
 
 // The first place of x among the first n names, or n.
@@ -152,7 +198,7 @@ impl Terms {
     }
 
     pub fn put_functor(mut self, symbol: u16, children: &[u16]) -> Terms
-        requires { ⌜ Room self (now children) ⌝ }
+        requires { ⌜ Room self symbol (now children) ⌝ }
         ensures { λ r. ⌜ PutsNode self (Node.functor symbol (now (children .entry))) (withFunctor self symbol (now (children .entry))) r ⌝ }
     {
         let n = self.count;

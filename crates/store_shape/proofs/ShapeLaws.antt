@@ -11,20 +11,22 @@ use Rattle.graph.specs.Limits.{nodeLimit, childLimit, equationLimit}
 use Rattle.store.specs.Views.{terms, equations}
 use Rattle.store.specs.Shape.{TermsShape, EquationsShape, Shape}
 use Rattle.base.proofs.CaseLaws.{below-or-from}
-use Rattle.store_shape.specs.Rules.{EachBelow, ZeroFrom, Distinct, NodeRule, EndRules, Sizes, EndSizes}
+use Rattle.store_shape.specs.Rules.{EachBelow, ZeroFrom, Distinct, NodeRule, ArityRule, EndRules, Sizes, EndSizes}
 use Rattle.base.specs.Tells.{Tells, Each}
 use Rattle.base.proofs.TellLaws.{tells-not, tells-same, tells-both}
+use Rattle.store_shape.proofs.HeadLaws.{rule-any}
 
 -- ---- nodes
 
 module _ (n : ℕ) (kind symbol arity child : List ℕ) (Z : Sizes kind symbol arity child) (few : n ≤ nodeLimit) where
-  -- each node in use keeps its rules, and each unused place is zero
+  -- each node in use keeps its rules, each unused place is zero, and functor nodes of one symbol have equally many children
   pub record Ruled : Type 0 where
     pub used : Each (NodeRule kind symbol arity child) n
     pub kinds : ZeroFrom kind n (length kind)
     pub symbols : ZeroFrom symbol n (length symbol)
     pub arities : ZeroFrom arity n (length arity)
     pub children : ZeroFrom child (4 * n) (length child)
+    pub fitting : ArityRule kind symbol arity n
 
   ruled-shape : Ruled → TermsShape (terms n kind symbol arity child)
   ruled-shape R = record {
@@ -40,6 +42,7 @@ module _ (n : ℕ) (kind symbol arity child : List ℕ) (Z : Sizes kind symbol a
     unused-children = λ u j h g w. ⊎-elim (λ l. R .used u l .places j w .unused g) (λ l. R .children (4 * u + j) (omega (arith, Z .children)) (omega arith)) (below-or-from n u);
     variables = λ u h e. ⊎-elim (λ l. (R .used u l .head .symbol-zero e, R .used u l .head .arity-zero e)) (λ l. (R .symbols u (omega (arith, Z .symbols)) l, arity-zero u h l)) (below-or-from n u);
     unused-nodes = λ u l h. kind-zero u h l;
+    one-arity = R .fitting child;
   }
     where
       kind-zero : (u : ℕ) → u < nodeLimit → n ≤ u → getD kind u 0 ≡ 0
@@ -65,6 +68,7 @@ module _ (n : ℕ) (kind symbol arity child : List ℕ) (Z : Sizes kind symbol a
     symbols = λ u h l. empty u (omega (arith, Z .symbols)) l .0;
     arities = λ u h l. empty u (omega (arith, Z .arities)) l .1;
     children = λ i h l. place i (omega (arith, Z .children)) l;
+    fitting = rule-any kind symbol arity n child (S .one-arity);
   }
     where
       empty : (u : ℕ) → u < nodeLimit → n ≤ u → (getD symbol u 0 ≡ 0) × (getD arity u 0 ≡ 0)
@@ -78,14 +82,14 @@ module _ (n : ℕ) (kind symbol arity child : List ℕ) (Z : Sizes kind symbol a
           ap (λ (x : ℕ). getD child x 0) (sym e)
           ∙ S .unused-children (i / 4) (i % 4) u (omega (arith, empty (i / 4) u (omega arith) .1)) m
 
-  pub tells-terms : {u k f a c : Bool} → Tells (Each (NodeRule kind symbol arity child) n) u → Tells (ZeroFrom kind n (length kind)) k
+  pub tells-terms : {u k f a c o : Bool} → Tells (Each (NodeRule kind symbol arity child) n) u → Tells (ZeroFrom kind n (length kind)) k
       → Tells (ZeroFrom symbol n (length symbol)) f → Tells (ZeroFrom arity n (length arity)) a → Tells (ZeroFrom child (4 * n) (length child)) c
-      → Tells (TermsShape (terms n kind symbol arity child)) (u && (((k && f) && a) && c))
-  tells-terms tu tk tf ta tc =
+      → Tells (ArityRule kind symbol arity n) o → Tells (TermsShape (terms n kind symbol arity child)) ((u && (((k && f) && a) && c)) && o)
+  tells-terms tu tk tf ta tc to =
       tells-same
-      (λ p. ruled-shape (record { used = p .0; kinds = p .1 .0 .0 .0; symbols = p .1 .0 .0 .1; arities = p .1 .0 .1; children = p .1 .1 }))
-      (λ S. let R : Ruled = shape-ruled S in (R .used, (((R .kinds, R .symbols), R .arities), R .children)))
-      (tells-both tu (tells-both (tells-both (tells-both tk tf) ta) tc))
+      (λ p. ruled-shape (record { used = p .0 .0; kinds = p .0 .1 .0 .0 .0; symbols = p .0 .1 .0 .0 .1; arities = p .0 .1 .0 .1; children = p .0 .1 .1; fitting = p .1 }))
+      (λ S. let R : Ruled = shape-ruled S in ((R .used, (((R .kinds, R .symbols), R .arities), R .children)), R .fitting))
+      (tells-both (tells-both tu (tells-both (tells-both (tells-both tk tf) ta) tc)) to)
 
 pub terms-many : (n : ℕ) (kind symbol arity child : List ℕ) → nodeLimit < n → Tells (TermsShape (terms n kind symbol arity child)) false
 terms-many n kind symbol arity child h = tells-not (λ S. omega (arith, S .few))

@@ -1,3 +1,4 @@
--- The rules that the shape test goes through, and the bit set of names.
+-- The rules that the shape test goes through, the bit set of names, and the heads of symbols.
 pub mod Rules
 pub mod Bits
+pub mod SymbolHeads

@@ -118,8 +118,13 @@ module _ (w : Workspace) (f : ℕ) (cs : List ℕ) (h : w .terms .count < 64) wh
   refused-unknown v k a =
       early-refused w (book.declare (functor f cs)) v 4 (rw (nodes-length (w .terms), lt-leb 64 (w .terms .count) h, le-ltb 4 (length cs) k, a)) (λ z. omega arith)
 
-  pub functor-early : length cs ≤ 4 → book.allBelow (w .terms .count) cs ≡ true → book.early (stateOf w) (book.declare (functor f cs)) ≡ none
-  functor-early k a = rw (nodes-length (w .terms), lt-leb 64 (w .terms .count) h, le-ltb 4 (length cs) k, a)
+  module _ (k : length cs ≤ 4) (a : book.allBelow (w .terms .count) cs ≡ true) where
+    pub refused-arity : Valid w → book.arityFits f (length cs) (nodesOf (w .terms)) ≡ false → Answers w (book.declare (functor f cs)) (outcome (says.Refused 18) w)
+    refused-arity v b =
+        early-refused w (book.declare (functor f cs)) v 18 (rw (nodes-length (w .terms), lt-leb 64 (w .terms .count) h, le-ltb 4 (length cs) k, a, b)) (λ z. omega arith)
+
+    pub functor-early : book.arityFits f (length cs) (nodesOf (w .terms)) ≡ true → book.early (stateOf w) (book.declare (functor f cs)) ≡ none
+    functor-early b = rw (nodes-length (w .terms), lt-leb 64 (w .terms .count) h, le-ltb 4 (length cs) k, a, b)
 
 -- ---- withdraw
 

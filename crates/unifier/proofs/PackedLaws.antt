@@ -11,6 +11,7 @@ use Rattle.graph.specs.Solution.{Solution}
 use Rattle.base.specs.Tab.{tab}
 use Rattle.base.proofs.ListLaws.{found-lt}
 use Rattle.base.proofs.TabLaws.{tab-getD}
+use Rattle.graph.proofs.ArityLaws.{one-arity-empty}
 use Rattle.graph.proofs.SolutionKeptLaws.{solution-empty}
 use Rattle.store.specs.Views.{terms, equations, nodesOf, equationsOf, orZero, column, arityOf, packTerms, packEquations}
 use Rattle.store.specs.Shape.{TermsShape, EquationsShape, Shape}
@@ -59,6 +60,7 @@ fresh-packed = refl
 -- arrays of zeros have the shape
 module _ (z : ℕ → List ℕ) (size : (n : ℕ) → length (z n) ≡ n) (all : (n i : ℕ) → getD (z n) i 0 ≡ 0) where
   zero-terms : TermsShape (terms 0 (z 64) (z 64) (z 64) (z 256))
+  unfolding nodesOf tab
   zero-terms = record {
     kind-size = size 64;
     symbol-size = size 64;
@@ -71,6 +73,7 @@ module _ (z : ℕ → List ℕ) (size : (n : ℕ) → length (z n) ≡ n) (all :
     unused-children = λ u j h k l. all 256 _;
     variables = λ u h k. (all 64 u, all 64 u);
     unused-nodes = λ u h k. all 64 u;
+    one-arity = one-arity-empty;
   }
 
   zero-equations : EquationsShape 0 (equations 0 (z 256) (z 256) (z 256))

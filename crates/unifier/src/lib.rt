@@ -182,7 +182,18 @@ impl Workspace {
         if CHILDREN < children.len() {
             return self.refuse(3);
         }
-        if store::all_below(children, count as u16) {
+        if !store::all_below(children, count as u16) {
+            return self.refuse(4);
+        }
+        let k = children.len() as u8;
+        if store::arity_fits(
+            &self.terms.kind,
+            &self.terms.symbol,
+            &self.terms.arity,
+            count,
+            symbol,
+            k,
+        ) {
             let t = self.terms;
             let more = t.put_functor(symbol, children);
             self.terms = more;
@@ -191,10 +202,10 @@ impl Workspace {
                 workspace: self,
             };
         }
-        self.refuse(4)
+        self.refuse(18)
     }
 
-    // Puts a functor node at the end: its number, or refusal 1, 2, 3 or 4.
+    // Puts a functor node at the end: its number, or refusal 1, 2, 3, 4 or 18.
     pub fn declare_functor(self, symbol: u16, children: &[u16]) -> Outcome
         ensures { λ r. ⌜ Answers self (book.declare (functor symbol (now (children .entry)))) r ⌝ }
     {

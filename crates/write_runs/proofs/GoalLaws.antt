@@ -24,11 +24,11 @@ module _ (s : State) where
   pub shows-cycle : (u : ℕ) → shows (s .nodes) cycle-goal (below u u) ≡ true
   shows-cycle u = eq-eqb u u refl
 
-  pub shows-clash : (u v f g : ℕ) (cs ds : List ℕ) → NodeAt s u (functor f cs) → NodeAt s v (functor g ds) → (EqualLabels f cs g ds → ⊥)
+  pub shows-clash : (u v f g : ℕ) (cs ds : List ℕ) → NodeAt s u (functor f cs) → NodeAt s v (functor g ds) → (EqualLabels f g → ⊥)
       → shows (s .nodes) clash-goal (same u v) ≡ true
   shows-clash u v f g cs ds p q d = rw (p, q) (differ (record { symbol = f; children = cs }) (record { symbol = g; children = ds }) d)
     where
-      differ : (k m : Functor) → (EqualLabels (k .symbol) (k .children) (m .symbol) (m .children) → ⊥) → not (equalLabels k m) ≡ true
+      differ : (k m : Functor) → (EqualLabels (k .symbol) (m .symbol) → ⊥) → not (equalLabels k m) ≡ true
       differ k m e = go (equalLabels k m) refl
         where
           go : (b : Bool) → equalLabels k m ≡ b → not b ≡ true

@@ -4,7 +4,7 @@ use mathlib.Core.List.{List}
 use mathlib.Core.Option.{some}
 use Prim.Native.Nat.{ℕ, suc, _≤_, _<_}
 use native.Mathlib.Omega.{arith}
-use lib.ListN.{length, getD}
+use lib.ListN.{getD}
 use borrow.Author.Tests.{eq-eqb}
 use Rattle.graph.specs.State.{functor, State, NodeAt, ChildAt, EqualLabels}
 use Rattle.graph.specs.Lines.{same, byEquation, downOf}
@@ -16,9 +16,9 @@ use Rattle.solve_trace.proofs.PackingLaws.{first-of, second-of, place-of}
 use Rattle.write_same.specs.Replay.{Names, ByPlace}
 
 -- the rule `down`, computed
-down-claim : (s : State) (p q j f g x y : ℕ) (cs ds : List ℕ) → NodeAt s p (functor f cs) → NodeAt s q (functor g ds) → EqualLabels f cs g ds
+down-claim : (s : State) (p q j f g x y : ℕ) (cs ds : List ℕ) → NodeAt s p (functor f cs) → NodeAt s q (functor g ds) → EqualLabels f g
     → ChildAt cs j x → ChildAt ds j y → downOf (s .nodes) (suc j) (same p q) ≡ some (same x y)
-down-claim s p q j f g x y cs ds n m l a b = rw (n, m, eq-eqb f g (l .0), eq-eqb (length cs) (length ds) (l .1), a, b)
+down-claim s p q j f g x y cs ds n m l a b = rw (n, m, eq-eqb f g l, a, b)
 
 module _ {nodes : ℕ} {name : List ℕ} (s : State) (N : Names nodes name s) where
   pub equation-line : {t : List ℕ} {e a b : ℕ} → e < placeBase → Reason s t e a b → byEquation (s .equations) (getD name e 0) ≡ some (same a b)

@@ -87,7 +87,7 @@ loop-again-2 c =
 returns-2 : tie.Need-returns-2 Inv-loop μ-loop
 returns-2 c =
     let z : c .before .loop .i ≡ 0 = omega arith in
-    passed-all _ _ _ _ _ _ (rw z at (c .before .loop .inv .1))
+    passed-all _ _ _ _ _ _ (c .before .before .pre .1) (rw z at (c .before .loop .inv .1))
 
 pub round-spec : {M : Type 1} → statement M
 round-spec =

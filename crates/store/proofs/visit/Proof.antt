@@ -1,8 +1,8 @@
--- `solve_closure::visit` meets its contract.
-use Rattle.solve_closure.specs.Rounds.{variable, first, further}
+-- `store::visit` meets its contract.
+use Rattle.store.specs.Heads.{variable, first, further}
 use borrow.Author.Needs.{needs}
-use Rattle.solve_closure.proofs.visit.Statement.{statement}
-use Rattle.solve_closure.proofs.visit.Tie as tie
+use Rattle.store.proofs.visit.Statement.{statement}
+use Rattle.store.proofs.visit.Tie as tie
 
 returns : tie.Need-returns
 returns c = variable (c .if1 .taken)

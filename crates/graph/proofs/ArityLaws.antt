@@ -1,0 +1,114 @@
+-- One number of children for each symbol (document 02 (c)).
+--   fits-at, at-fits      the test passes exactly where each functor node of the symbol has that number of children
+--   Misfit, misfit        where it fails, one of them has another number: what refusal 18 says of a declaration
+--   fits-by-one           of nodes that keep the rule, any one of the symbol decides it
+--   fits-snoc             the test of one node more
+--   one-arity-declared, one-arity-before, last-fits   the rule with one node more is the rule and the test
+--   one-arity-runs        after every list of calls functor nodes of one symbol have equally many children
+use mathlib.Core.Path.{_≡_, refl, sym, ap, _∙_}
+use mathlib.Core.Logic.{⊎-elim}
+use mathlib.Core.Bool.{Bool, true, false, not, _&&_, _||_}
+use mathlib.Core.List.{List, [], _∷_, _++_}
+use mathlib.Core.Option.{some}
+use Prim.Native.Nat.{ℕ, zero, suc}
+use lib.ListN.{length, getElem?}
+use lib.Dec.{eqb}
+use borrow.Author.Tests.{eqb-true, eqb-false, eq-eqb}
+use Rattle.graph.specs.State.{Node, variable, functor, State, OneArity}
+use Rattle.graph.specs.Book.{Call, declare, equate, withdraw, clear, Transition, childrenOf, arityFits, nodeFits, Refusal, accepted, Runs}
+use Rattle.base.proofs.AbsurdLaws.{zero-is-one, true-is-false}
+use Rattle.base.proofs.BoolLaws.{and-left, and-right, and-both, then-true, untrue-false}
+use Rattle.base.proofs.ListLaws.{found-append, found-last, found-snoc}
+use Rattle.graph.proofs.AcceptLaws.{declare-accepted, runs-keep}
+
+-- ---- the test
+
+module _ (f k : ℕ) where
+  pub fits-at : (ns : List Node) (v : ℕ) (ds : List ℕ) → arityFits f k ns ≡ true → getElem? ns v ≡ some (functor f ds) → length ds ≡ k
+  fits-at [] v ds a h = zero-is-one cc
+  fits-at (variable ∷ ns) zero ds a h = zero-is-one cc
+  fits-at (variable ∷ ns) (suc v) ds a h = fits-at ns v ds a h
+  fits-at (functor g es ∷ ns) zero ds a h =
+      let q : g ≡ f = cc in
+      let e : ds ≡ es = cc in
+      ap length e ∙ eqb-true (length es) k (then-true (eqb g f) (eqb (length es) k) (and-left (not (eqb g f) || eqb (length es) k) (arityFits f k ns) a) (eq-eqb g f q))
+  fits-at (functor g es ∷ ns) (suc v) ds a h = fits-at ns v ds (and-right (not (eqb g f) || eqb (length es) k) (arityFits f k ns) a) h
+
+  pub at-fits : (ns : List Node) → ((v : ℕ) (ds : List ℕ) → getElem? ns v ≡ some (functor f ds) → length ds ≡ k) → arityFits f k ns ≡ true
+  at-fits [] h = refl
+  at-fits (variable ∷ ns) h = at-fits ns (λ v. h (suc v))
+  at-fits (functor g es ∷ ns) h = and-both _ (arityFits f k ns) (own (eqb g f) refl) (at-fits ns (λ v. h (suc v)))
+    where
+      own : (b : Bool) → eqb g f ≡ b → not b || eqb (length es) k ≡ true
+      own true e = let q : g ≡ f = eqb-true g f e in eq-eqb (length es) k (h 0 es cc)
+      own false e = refl
+
+  -- a functor node of symbol f that doesn't have k children
+  abbrev pub Misfit : List Node → Type 0
+  Misfit ns = (v : ℕ) × (ds : List ℕ) × (getElem? ns v ≡ some (functor f ds)) × (length ds ≡ k → ⊥)
+
+  later : (n : Node) (ns : List Node) → Misfit ns → Misfit (n ∷ ns)
+  later n ns m = (suc (m .0), m .1, m .2, m .3)
+
+  pub misfit : (ns : List Node) → arityFits f k ns ≡ false → Misfit ns
+  misfit [] a = true-is-false a
+  misfit (variable ∷ ns) a = later variable ns (misfit ns a)
+  misfit (functor g es ∷ ns) a = go (eqb g f) (eqb (length es) k) refl refl a (λ b. later (functor g es) ns (misfit ns b))
+    where
+      go : (b c : Bool) → eqb g f ≡ b → eqb (length es) k ≡ c → (not b || c) && arityFits f k ns ≡ false
+          → (arityFits f k ns ≡ false → Misfit (functor g es ∷ ns)) → Misfit (functor g es ∷ ns)
+      go true false p q z r = let e : g ≡ f = eqb-true g f p in (0, es, cc, eqb-false (length es) k q)
+      go true true p q z r = r z
+      go false c p q z r = r z
+
+  pub fits-by-one : (ns : List Node) → OneArity ns → (v : ℕ) (ds : List ℕ) → getElem? ns v ≡ some (functor f ds) → eqb (length ds) k ≡ arityFits f k ns
+  fits-by-one ns O v ds h = go (eqb (length ds) k) refl
+    where
+      go : (b : Bool) → eqb (length ds) k ≡ b → b ≡ arityFits f k ns
+      go true e = sym (at-fits ns (λ w es q. O w v f es ds q h ∙ eqb-true (length ds) k e))
+      go false e = sym (untrue-false (arityFits f k ns) (λ a. eqb-false (length ds) k e (fits-at ns v ds a h)))
+
+  pub fits-snoc : (ns : List Node) (n : Node) → arityFits f k (ns ++ (n ∷ [])) ≡ arityFits f k ns && arityFits f k (n ∷ [])
+  fits-snoc [] n = refl
+  fits-snoc (variable ∷ ns) n = fits-snoc ns n
+  fits-snoc (functor g es ∷ ns) n = go (not (eqb g f) || eqb (length es) k) (arityFits f k ns) (arityFits f k (n ∷ [])) (fits-snoc ns n)
+    where
+      go : (b y z : Bool) {x : Bool} → x ≡ y && z → b && x ≡ (b && y) && z
+      go true y z e = e
+      go false y z e = refl
+
+-- ---- one node more
+
+pub one-arity-empty : OneArity []
+one-arity-empty u v f cs ds h k = zero-is-one cc
+
+module _ (ns : List Node) (n : Node) where
+  pub one-arity-declared : nodeFits n ns ≡ true → OneArity ns → OneArity (ns ++ (n ∷ []))
+  one-arity-declared a O u v f cs ds h k =
+      ⊎-elim
+      (λ o. ⊎-elim (λ q. O u v f cs ds o q) (λ q. with-new f ds cs (q .1) u o) (found-snoc ns n v (functor f ds) k))
+      (λ o. ⊎-elim (λ q. sym (with-new f cs ds (o .1) v q)) (λ q. ap length (ap childrenOf (sym (o .1) ∙ q .1))) (found-snoc ns n v (functor f ds) k))
+      (found-snoc ns n u (functor f cs) h)
+    where
+      with-new : (f : ℕ) (es xs : List ℕ) → n ≡ functor f es → (x : ℕ) → getElem? ns x ≡ some (functor f xs) → length xs ≡ length es
+      with-new f es xs e x q = fits-at f (length es) ns x xs (rw e at a) q
+
+  pub one-arity-before : OneArity (ns ++ (n ∷ [])) → OneArity ns
+  one-arity-before O u v f cs ds h k = O u v f cs ds (found-append ns (n ∷ []) u (functor f cs) h) (found-append ns (n ∷ []) v (functor f ds) k)
+
+pub last-fits : (ns : List Node) (n : Node) → OneArity (ns ++ (n ∷ [])) → nodeFits n ns ≡ true
+last-fits ns variable O = refl
+last-fits ns (functor f cs) O =
+    at-fits f (length cs) ns (λ v ds h.
+    O v (length ns) f ds cs (found-append ns (functor f cs ∷ []) v (functor f ds) h) (found-last ns (length ns) (functor f cs) refl))
+
+-- ---- the book's calls
+
+pub one-arity-accepted : (s : State) → OneArity (s .nodes) → (c : Call) → Refusal s c 0 → OneArity (accepted s c .state .nodes)
+one-arity-accepted s O (declare n) v = one-arity-declared (s .nodes) n (declare-accepted s n v .fits) O
+one-arity-accepted s O (equate e room) v = O
+one-arity-accepted s O (withdraw n) v = O
+one-arity-accepted s O clear v = one-arity-empty
+
+pub one-arity-runs : {s d : State} {cs : List Call} {rs : List Transition} → OneArity (s .nodes) → Runs s cs rs d → OneArity (d .nodes)
+one-arity-runs = runs-keep (λ (s : State). OneArity (s .nodes)) one-arity-accepted
