@@ -72,9 +72,7 @@ abbrev pub early : State → Call → Option ℕ
 early s (declare n) =
     cond (leb nodeLimit (length (s .nodes))) (some 2)
     (cond (ltb childLimit (length (childrenOf n))) (some 3)
-    (cond (allBelow (length (s .nodes)) (childrenOf n))
-    (cond (nodeFits n (s .nodes)) none (some 18))
-    (some 4)))
+    (cond (allBelow (length (s .nodes)) (childrenOf n)) (cond (nodeFits n (s .nodes)) none (some 18)) (some 4)))
 early s (equate e room) =
     cond (ltb room bufferBytes) (some 5)
     (cond (ltb (e .left) (length (s .nodes)) && ltb (e .right) (length (s .nodes)))

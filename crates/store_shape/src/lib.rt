@@ -150,12 +150,7 @@ fn node_fits<'a>(
 }
 
 // Whether, of the first n nodes, functor nodes of one symbol have equally many children.
-fn one_arity<'a>(
-    kind: &'a [u8; 64],
-    symbol: &'a [u16; 64],
-    arity: &'a [u8; 64],
-    n: usize,
-) -> bool
+fn one_arity<'a>(kind: &'a [u8; 64], symbol: &'a [u16; 64], arity: &'a [u8; 64], n: usize) -> bool
     requires { ⌜ n ≤ nodeLimit ⌝ }
     ensures { λ r. ⌜ Tells (ArityRule (now (kind .entry)) (now (symbol .entry)) (now (arity .entry)) n) r ⌝ }
 {

@@ -1,8 +1,8 @@
 // Damaged workspaces: each single field of a valid one set to bad values, and held equations without a solution. Every call
 // refuses with 1, and workspace and buffer come back untouched.
 //
-// The valid one has the nodes 0 and 1, variables; 2 = symbol 7 of 0; 3 = symbol 8 of 0 and 1; 4, symbol 9 without children; and
-// the equations 10, 0 = 1, and 11, 1 = 4.
+// The valid one has the nodes 0 and 1, variables; 2 = symbol 7 of 0; 3 = symbol 71 of 0 and 1; 4, symbol 135 without children; and
+// the equations 10, 0 = 1, and 11, 1 = 4. The three symbols leave one remainder by 64.
 use test_solver::book;
 use test_solver::checker;
 use test_solver::numbers::get;
@@ -31,8 +31,8 @@ fn valid(m: &mut [usize]) {
     let two: [u16; 2] = [0, 1];
     put(m, book::NODES, 2);
     book::put_functor(m, 7, &one);
-    book::put_functor(m, 8, &two);
-    book::put_functor(m, 9, &none);
+    book::put_functor(m, 71, &two);
+    book::put_functor(m, 135, &none);
     book::hold(m, 10, 0, 1);
     book::hold(m, 11, 1, 4);
 }
@@ -139,6 +139,16 @@ fn bad_kind(i: usize) -> usize {
     128
 }
 
+// A symbol that another node has with another number of children; of a variable and of an unused place any.
+fn bad_symbol(i: usize, k: usize) -> usize {
+    match i {
+        2 => among(k, 71, 135, 0),
+        3 => among(k, 7, 135, 0),
+        4 => among(k, 7, 71, 0),
+        _ => among(k, 1, 256, 65535),
+    }
+}
+
 // Five children are too many; of a variable and of an unused place any are.
 fn bad_arity(i: usize) -> usize {
     if (i < 2) | (5 <= i) {
@@ -170,7 +180,7 @@ fn bad_end(i: usize) -> usize {
 fn bad(f: usize, i: usize, k: usize) -> usize {
     match f {
         0 => among(k, 2, 255, bad_kind(i)),
-        1 => among(k, 1, 256, 65535),
+        1 => bad_symbol(i, k),
         2 => among(k, 5, 255, bad_arity(i)),
         3 => among(k, 63, 255, bad_child(i)),
         4 => bad_name(i),
@@ -178,11 +188,11 @@ fn bad(f: usize, i: usize, k: usize) -> usize {
     }
 }
 
-// Whether field f has a place i and that a k-th bad value. Any symbol will do for a functor node.
+// Whether field f has a place i and that a k-th bad value. A functor node may have any symbol but two.
 fn is_bad(f: usize, i: usize, k: usize) -> bool {
     match f {
         0 => i < 64,
-        1 => (i < 2) | ((5 <= i) & (i < 64)),
+        1 => (i < 64) & ((i < 2) | (5 <= i) | (k < 2)),
         2 => i < 64,
         4 => k == 0,
         _ => true,

@@ -11,7 +11,7 @@ use unifier::Workspace;
 // A reply, in words.
 fn said(what: &[u8], code: usize) {
     say(what, 0);
-    if code < 18 {
+    if code < replies::REFUSALS {
         say(b": refused #\n", code);
     } else if replies::NODE <= code {
         say(b": node #\n", code % 256);
@@ -24,7 +24,7 @@ fn said(what: &[u8], code: usize) {
     }
 }
 
-fn told(what: &[u8], o: Outcome) -> Workspace {
+pub fn told(what: &[u8], o: Outcome) -> Workspace {
     let r = o.reply;
     said(what, replies::changed(r));
     o.workspace

@@ -1,4 +1,5 @@
-// The unmarked examples of document 01, at its limits, class numbers, and damaged workspaces.
+// The unmarked examples of document 01, at its limits, class numbers, numbers of children, and damaged workspaces.
+mod arities; // refusal 18
 mod classes; // which node a class shows
 mod damaged; // workspaces with one bad field
 mod edges; // 64 nodes, 256 equations, 8,192 lines, 65,536 bytes
@@ -11,5 +12,6 @@ fn main() {
     edges::lines(&mut lines);
     edges::buffers(&mut buf);
     classes::all();
+    arities::all();
     damaged::all(&mut buf);
 }

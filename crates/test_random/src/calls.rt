@@ -31,7 +31,7 @@ fn variable(w: Workspace, m: &mut [usize]) -> Workspace {
     told(w.declare_variable(), m, replies::NODE | n)
 }
 
-fn functor_owed(m: &[usize], children: &[u16]) -> usize {
+fn functor_owed(m: &[usize], symbol: usize, children: &[u16]) -> usize {
     let n = get(m, book::NODES);
     if 64 <= n {
         return 2;
@@ -39,14 +39,17 @@ fn functor_owed(m: &[usize], children: &[u16]) -> usize {
     if 4 < children.len() {
         return 3;
     }
-    if book::knows_all(m, children) {
-        return replies::NODE | n;
+    if !book::knows_all(m, children) {
+        return 4;
     }
-    4
+    if book::arity_of(m, symbol, children.len()) != children.len() {
+        return 18;
+    }
+    replies::NODE | n
 }
 
 fn functor_of(w: Workspace, m: &mut [usize], symbol: usize, children: &[u16]) -> Workspace {
-    let owed = functor_owed(m, children);
+    let owed = functor_owed(m, symbol, children);
     let next = told(w.declare_functor(low16(symbol), children), m, owed);
     if replies::NODE <= owed {
         book::put_functor(m, symbol, children);
@@ -62,8 +65,8 @@ fn front(s: &[u16], n: usize) -> &[u16] {
 fn functor(w: Workspace, m: &mut [usize]) -> Workspace {
     let mut children = [0u16; 8];
     picks::children(m, &mut children);
-    let k = picks::arity(m);
     let symbol = picks::symbol(m);
+    let k = picks::arity(m, symbol);
     functor_of(w, m, symbol, front(&children, k))
 }
 

@@ -2,34 +2,34 @@
 use test_solver::numbers::add;
 use test_tools::replies;
 
-pub const CALLS: usize = 18;
+pub const CALLS: usize = 32;
 
-const NODES: usize = 19;
+const NODES: usize = 33;
 
-pub const AGAIN: usize = 24;
+pub const AGAIN: usize = 38;
 
-pub const CLEARED: usize = 25;
+pub const CLEARED: usize = 39;
 
-const CLASSES: usize = 26;
+const CLASSES: usize = 40;
 
-pub const SAME: usize = 27;
+pub const SAME: usize = 41;
 
-pub const PROOFS: usize = 31;
+pub const PROOFS: usize = 45;
 
-pub const LINES: usize = 32;
+pub const LINES: usize = 46;
 
-pub const DAMAGED_PASSED: usize = 34;
+pub const DAMAGED_PASSED: usize = 48;
 
-pub const DAMAGED_REFUSED: usize = 35;
+pub const DAMAGED_REFUSED: usize = 49;
 
-pub const OTHER_CLAIMS: usize = 36;
+pub const OTHER_CLAIMS: usize = 50;
 
-const AGREED: usize = 37;
+const AGREED: usize = 51;
 
-const MISMATCHES: usize = 38;
+const MISMATCHES: usize = 52;
 
 // Class replies whose number is not the lowest node of the class.
-pub const SHOWN: usize = 39;
+pub const SHOWN: usize = 53;
 
 // One comparison: counted as agreed or as a mismatch.
 pub fn expect(m: &mut [usize], ok: bool) {

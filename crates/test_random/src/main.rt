@@ -94,6 +94,7 @@ fn show(m: &[usize]) {
         m,
         10,
     );
+    print(b"refused 18: #\n", m, 18);
     print(
         b"proofs checked: #\ntheir lines: #\nrandom lines passed: #\ndamaged proofs passed: #\ndamaged proofs refused: #\n",
         m,

@@ -1,5 +1,6 @@
 // What is random. Of the present round there stand at place MOST how many nodes to declare, at SYMBOLS how many symbols, at PILE whether
-// equations are mostly between nodes that are same already, at FREED how many places a withdrawal freed.
+// equations are mostly between nodes that are same already, at FREED how many places a withdrawal freed, at SALT what the symbols' numbers
+// of children depend on, at SPREAD whether all symbols leave one remainder by 64.
 use test_solver::book;
 use test_solver::checker;
 use test_solver::checker::Question;
@@ -21,6 +22,10 @@ const PILE: usize = 67;
 
 pub const FREED: usize = 68;
 
+const SALT: usize = 69;
+
+const SPREAD: usize = 70;
+
 fn more(m: &mut [usize], least: usize, n: usize) -> usize {
     std::num::wrapping_add_usize(least, draw(m, n))
 }
@@ -29,8 +34,12 @@ fn more(m: &mut [usize], least: usize, n: usize) -> usize {
 pub fn settings(m: &mut [usize]) -> usize {
     let most = more(m, 4, 61);
     put(m, MOST, most);
-    let symbols = more(m, 1, 3);
+    let symbols = more(m, 1, 8);
     put(m, SYMBOLS, symbols);
+    let salt = draw(m, 5);
+    put(m, SALT, salt);
+    let spread = draw(m, 3);
+    put(m, SPREAD, spread);
     let pile = draw(m, 4);
     put(m, PILE, pile);
     put(m, FREED, 0);
@@ -128,18 +137,27 @@ pub fn children(m: &mut [usize], out: &mut [u16]) {
     }
 }
 
-pub fn arity(m: &mut [usize]) -> usize {
+// Mostly the number of children that the round has for the symbol; one in 16 is another.
+pub fn arity(m: &mut [usize], symbol: usize) -> usize {
     if one_in(m, 40) {
         return more(m, 5, 3);
     }
-    draw(m, 5)
+    if one_in(m, 16) {
+        return draw(m, 5);
+    }
+    std::num::wrapping_add_usize(
+        symbol >> 6,
+        std::num::wrapping_add_usize(symbol, get(m, SALT)),
+    )
+        % 5
 }
 
 pub fn symbol(m: &mut [usize]) -> usize {
     if one_in(m, 64) {
         return 65535;
     }
-    draw(m, get(m, SYMBOLS))
+    let k = draw(m, get(m, SYMBOLS));
+    if get(m, SPREAD) == 0 { k << 6 } else { k }
 }
 
 // A small field, where the rule uses it.

@@ -33,7 +33,23 @@ pub fn both_functors(m: &[usize], u: usize, v: usize) -> bool {
 }
 
 pub fn equal_labels(m: &[usize], u: usize, v: usize) -> bool {
-    (get(m, SYMBOL | u) == get(m, SYMBOL | v)) & (get(m, ARITY | u) == get(m, ARITY | v))
+    get(m, SYMBOL | u) == get(m, SYMBOL | v)
+}
+
+fn is_functor_of(m: &[usize], u: usize, symbol: usize) -> bool {
+    (get(m, KIND | u) == 1) & (get(m, SYMBOL | u) == symbol)
+}
+
+// How many children the last functor node of a symbol has, or `otherwise` where there is none.
+pub fn arity_of(m: &[usize], symbol: usize, otherwise: usize) -> usize {
+    let mut u = get(m, NODES);
+    while 0 < u {
+        u -= 1;
+        if is_functor_of(m, u, symbol) {
+            return get(m, ARITY | u);
+        }
+    }
+    otherwise
 }
 
 // The place of an equation, or how many are held.

@@ -23,7 +23,7 @@ pub const SAME: usize = 2;
 pub const BELOW: usize = 3;
 
 // What `check` replies: passed, or a refusal's number, or BROKEN_AT and the line.
-pub const PASSED: usize = 33;
+pub const PASSED: usize = 47;
 
 pub const BROKEN_AT: usize = 16384;
 

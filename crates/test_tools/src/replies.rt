@@ -9,21 +9,24 @@ use unifier::GoalAsked;
 use unifier::OfferAsked;
 use unifier::Reply;
 
-pub const HELD: usize = 20;
+// Below this a number is a refusal's.
+pub const REFUSALS: usize = 32;
 
-pub const CLASH: usize = 21;
+pub const HELD: usize = 34;
 
-pub const CYCLE: usize = 22;
+pub const CLASH: usize = 35;
 
-pub const GONE: usize = 23;
+pub const CYCLE: usize = 36;
 
-pub const SAME: usize = 27;
+pub const GONE: usize = 37;
 
-pub const BELOW: usize = 28;
+pub const SAME: usize = 41;
 
-pub const ABOVE: usize = 29;
+pub const BELOW: usize = 42;
 
-pub const APART: usize = 30;
+pub const ABOVE: usize = 43;
+
+pub const APART: usize = 44;
 
 pub const NODE: usize = 256;
 
@@ -90,7 +93,7 @@ pub fn compared_bytes(r: Comparison) -> usize {
 
 // The refusal, or 0. A broken line is refusal 12.
 pub fn refusal(code: usize) -> usize {
-    if code < 18 {
+    if code < REFUSALS {
         return code;
     }
     if (checker::BROKEN_AT <= code) & (code < CLASS) {
@@ -102,10 +105,10 @@ pub fn refusal(code: usize) -> usize {
 // What the proof that came with a reply has to show of u and v.
 pub fn shown(x: Question, code: usize, u: usize, v: usize) -> Question {
     match code {
-        21 => checker::asking(x, checker::CLASH, u, v),
-        22 => checker::asking(x, checker::CYCLE, u, v),
-        27 => checker::asking(x, checker::SAME, u, v),
-        28 => checker::asking(x, checker::BELOW, u, v),
+        35 => checker::asking(x, checker::CLASH, u, v),
+        36 => checker::asking(x, checker::CYCLE, u, v),
+        41 => checker::asking(x, checker::SAME, u, v),
+        42 => checker::asking(x, checker::BELOW, u, v),
         _ => checker::asking(x, checker::BELOW, v, u),
     }
 }
