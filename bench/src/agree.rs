@@ -36,10 +36,13 @@ fn called_alike(w: &Workspace, seed: &mut Seed, a: &mut [u8], b: &mut [u8], coun
     let mut node = || seed.next(w.terms.count.min(64) + 1) as u16;
     let (u, v) = (node(), node());
     let name = seed.next(130) as u16;
+    let children: Vec<u16> = (0..seed.next(6)).map(|_| seed.next(w.terms.count.min(64) + 1) as u16).collect();
+    // mostly a symbol that some node has
+    let symbol = if seed.next(4) == 0 { seed.next(256) as u16 } else { w.terms.symbol[seed.next(64)] };
     let each = |side: Calls, buf: &mut [u8]| {
         let first = side.equate(w, name, u, v, buf);
         let second = side.withdraw(&first.space, name);
-        [first, second, side.compare(w, u, v, buf), side.class_of(w, u)]
+        [first, second, side.compare(w, u, v, buf), side.class_of(w, u), side.declare(w, symbol, &children)]
     };
     let (plain, rattle) = (each(PLAIN, a), each(RATTLE, b));
     assert!(a == b, "the same lines");
@@ -70,6 +73,10 @@ pub fn check() {
     for turn in 0..20_000 {
         let n = 1 + seed.next(64);
         let mut w = Workspace { terms: workloads::random_terms(&mut seed, n), equations: Equations::fresh() };
+        // of every third one, all symbols leave one remainder by 64
+        if turn % 3 == 0 {
+            w.terms.symbol.iter_mut().for_each(|f| *f *= 64);
+        }
         // of every second one, only what leaves a solution
         for k in 0..seed.next(if n < 12 { 8 } else { 40 }) {
             w.equations.put(k as u16 * 3, seed.next(n) as u8, seed.next(n) as u8);
@@ -104,5 +111,5 @@ pub fn check() {
         verdicts[0], verdicts[1], verdicts[2]
     );
     let counts: Vec<String> = counts.iter().map(|(reply, count)| format!("{reply} {count}")).collect();
-    println!("and on the replies, lines and workspaces of 160,000 calls (a number is a refusal): {}", counts.join(", "));
+    println!("and on the replies, lines and workspaces of 200,000 calls (a number is a refusal): {}", counts.join(", "));
 }

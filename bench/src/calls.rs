@@ -13,6 +13,7 @@ type Numbers = [u16; 3];
 
 #[derive(Clone, Copy)]
 pub struct Calls {
+    declare: unsafe extern "C" fn(Workspace, u16, *const u16, usize, &mut Numbers) -> Workspace,
     equate: unsafe extern "C" fn(Workspace, u16, u16, u16, *mut u8, usize, &mut Numbers) -> Workspace,
     withdraw: unsafe extern "C" fn(Workspace, u16, &mut Numbers) -> Workspace,
     compare: unsafe extern "C" fn(Workspace, u16, u16, *mut u8, usize, &mut Numbers) -> Workspace,
@@ -22,6 +23,7 @@ pub struct Calls {
 
 extern "C" {
     // a slice is its address and its length
+    fn ffi_declare(space: Workspace, symbol: u16, children: *const u16, len: usize, numbers: &mut Numbers) -> Workspace;
     fn ffi_equate(space: Workspace, name: u16, left: u16, right: u16, proof: *mut u8, len: usize, numbers: &mut Numbers) -> Workspace;
     fn ffi_withdraw(space: Workspace, name: u16, numbers: &mut Numbers) -> Workspace;
     fn ffi_compare(space: Workspace, u: u16, v: u16, proof: *mut u8, len: usize, numbers: &mut Numbers) -> Workspace;
@@ -30,8 +32,20 @@ extern "C" {
 }
 
 /// The proved library.
-pub const RATTLE: Calls =
-    Calls { equate: ffi_equate, withdraw: ffi_withdraw, compare: ffi_compare, class_of: ffi_class_of, check_same: ffi_check_same };
+pub const RATTLE: Calls = Calls {
+    declare: ffi_declare,
+    equate: ffi_equate,
+    withdraw: ffi_withdraw,
+    compare: ffi_compare,
+    class_of: ffi_class_of,
+    check_same: ffi_check_same,
+};
+
+unsafe extern "C" fn declare(mut w: Workspace, symbol: u16, children: *const u16, len: usize, numbers: &mut Numbers) -> Workspace {
+    let reply = plain::declare(&mut w, symbol, slice::from_raw_parts(children, len));
+    *numbers = tell(reply);
+    w
+}
 
 unsafe extern "C" fn equate(mut w: Workspace, name: u16, left: u16, right: u16, proof: *mut u8, len: usize, numbers: &mut Numbers) -> Workspace {
     let reply = plain::equate(&mut w, name, left, right, slice::from_raw_parts_mut(proof, len));
@@ -66,11 +80,12 @@ unsafe extern "C" fn check_same(w: Workspace, lines: *const u8, len: usize, u: u
 }
 
 /// The same work in plain Rust.
-pub const PLAIN: Calls = Calls { equate, withdraw, compare, class_of, check_same };
+pub const PLAIN: Calls = Calls { declare, equate, withdraw, compare, class_of, check_same };
 
 fn tell(reply: Reply) -> Numbers {
     match reply {
         Reply::Refused(k, n) => [0, k as u16, n as u16],
+        Reply::Node(u) => [1, u as u16, 0],
         Reply::Held => [2, 0, 0],
         Reply::Gone => [3, 0, 0],
         Reply::Same(n) => [4, n as u16, 0],
@@ -87,6 +102,7 @@ impl Told {
         let lines = number as usize;
         match said {
             0 => Reply::Refused(number as u8, second as usize),
+            1 => Reply::Node(number as u8),
             2 => Reply::Held,
             3 => Reply::Gone,
             4 => Reply::Same(lines),
@@ -107,6 +123,12 @@ impl Told {
 }
 
 impl Calls {
+    pub fn declare(&self, w: &Workspace, symbol: u16, children: &[u16]) -> Told {
+        let mut numbers = [0; 3];
+        let space = unsafe { (self.declare)(*w, symbol, children.as_ptr(), children.len(), &mut numbers) };
+        Told { numbers, space }
+    }
+
     pub fn equate(&self, w: &Workspace, name: u16, left: u16, right: u16, buf: &mut [u8]) -> Told {
         let mut numbers = [0; 3];
         let space = unsafe { (self.equate)(*w, name, left, right, buf.as_mut_ptr(), buf.len(), &mut numbers) };

@@ -47,12 +47,18 @@ fn solve_rows(all: &[Workload]) {
     }
 }
 
-const ROWS: [&str; 8] =
-    ["equate, held", "equate, refused 8", "equate, refused 9", "compare, same", "compare, below", "class", "withdraw", "handed over and back"];
+const ROWS: [&str; 10] = [
+    "declare, node", "declare, refused 18", "equate, held", "equate, refused 8", "equate, refused 9", "compare, same", "compare, below", "class",
+    "withdraw", "handed over and back",
+];
+
+const COPIES: &str = ROWS[9];
 
 fn call(side: Calls, w: &Workspace, l: &Workload, buf: &mut [u8], which: &str) -> Option<Told> {
     let mut equate = |(name, u, v): (u16, u8, u8)| side.equate(w, name, u as u16, v as u16, buf);
     Some(match which {
+        "declare, node" => side.declare(w, 7, &[0, 0]),
+        "declare, refused 18" => side.declare(w, *w.terms.symbol.iter().find(|&&f| f > 0)?, &[]),
         "equate, held" => equate(l.held),
         "equate, refused 8" => equate(l.clash?),
         "equate, refused 9" => equate(l.cycle?),
@@ -65,8 +71,11 @@ fn call(side: Calls, w: &Workspace, l: &Workload, buf: &mut [u8], which: &str) -
 
 fn start_of(l: &Workload, which: &str) -> Workspace {
     let mut w = if which.starts_with("equate") { l.room } else { l.workspace };
+    if which.starts_with("declare") {
+        w = workloads::room_for_a_node(&w);
+    }
     // refused at once, so that the copies are all there is to time
-    if which == ROWS[7] {
+    if which == COPIES {
         w.terms.count = 65;
     }
     w
@@ -75,7 +84,7 @@ fn start_of(l: &Workload, which: &str) -> Workspace {
 fn call_rows(all: &[Workload]) {
     for which in ROWS {
         timing::title(which);
-        for l in all.iter().take(if which == ROWS[7] { 1 } else { all.len() }) {
+        for l in all.iter().take(if which == COPIES { 1 } else { all.len() }) {
             let start = start_of(l, which);
             let (mut a, mut b) = (vec![0u8; 65536], vec![0u8; 65536]);
             let Some(told) = call(PLAIN, &start, l, &mut a, which) else { continue };

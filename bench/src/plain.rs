@@ -117,6 +117,33 @@ fn places_ok(child: &[u8; 256], arity: u8, u: u8) -> bool {
     })
 }
 
+// Whether each functor node of symbol f among the first n has k children.
+fn arity_fits(t: &Terms, n: usize, f: u16, k: u8) -> bool {
+    (0..n).fold(true, |ok, u| ok & ((t.kind[u] != 1) | (t.symbol[u] != f) | (t.arity[u] == k)))
+}
+
+// Whether functor nodes of one symbol have equally many children: by a head for each remainder of a symbol.
+fn one_arity(t: &Terms) -> bool {
+    let mut head = [64u8; 64];
+    for u in 0..t.count {
+        if t.kind[u] != 1 {
+            continue;
+        }
+        let (f, k) = (t.symbol[u], t.arity[u]);
+        let h = f as usize % 64;
+        let v = head[h] as usize;
+        if v >= 64 {
+            head[h] = u as u8;
+            continue;
+        }
+        let fits = if t.symbol[v] == f { t.arity[v] == k } else { arity_fits(t, u, f, k) };
+        if !fits {
+            return false;
+        }
+    }
+    true
+}
+
 pub fn terms_shaped(t: &Terms) -> bool {
     let n = t.count;
     if n > 64 {
@@ -126,7 +153,7 @@ pub fn terms_shaped(t: &Terms) -> bool {
     for u in 0..n {
         used &= head_ok(t.kind[u], t.symbol[u], t.arity[u]) & places_ok(&t.child, t.arity[u], u as u8);
     }
-    used & zero_from(&t.kind, n) & zero_from(&t.symbol, n) & zero_from(&t.arity, n) & zero_from(&t.child, 4 * n)
+    used & zero_from(&t.kind, n) & zero_from(&t.symbol, n) & zero_from(&t.arity, n) & zero_from(&t.child, 4 * n) & one_arity(t)
 }
 
 // A bit for each of the 65,536 names.
@@ -195,7 +222,7 @@ fn round(t: &Terms, table: &mut Table, trace: &mut Trace, steps: &mut usize) -> 
             head[c] = u as u8;
             continue;
         }
-        if t.symbol[u] != t.symbol[v] || t.arity[u] != t.arity[v] {
+        if t.symbol[u] != t.symbol[v] {
             return Some((u as u8, v as u8));
         }
         for k in 0..t.arity[u] as usize {
@@ -641,7 +668,7 @@ fn functor(t: &Terms, u: usize) -> bool {
 }
 
 fn down(t: &Terms, u: usize, v: usize, p: u8) -> Option<(u8, u8, u8)> {
-    if !functor(t, u) || !functor(t, v) || t.symbol[u] != t.symbol[v] || t.arity[u] != t.arity[v] {
+    if !functor(t, u) || !functor(t, v) || t.symbol[u] != t.symbol[v] {
         return None;
     }
     Some((SAME, place_at(t, u, p)?, place_at(t, v, p)?))
@@ -678,7 +705,7 @@ fn shows(t: &Terms, goal: Goal, kind: u8, u: u8, v: u8) -> bool {
     match goal {
         Goal::Clash => {
             let (a, b) = (u as usize, v as usize);
-            kind == SAME && functor(t, a) && functor(t, b) && (t.symbol[a] != t.symbol[b] || t.arity[a] != t.arity[b])
+            kind == SAME && functor(t, a) && functor(t, b) && t.symbol[a] != t.symbol[b]
         }
         Goal::Cycle => kind == BELOW && u == v,
         Goal::Same(x, y) => kind == SAME && (x, y) == (u, v),
@@ -751,6 +778,7 @@ pub fn cited(bytes: &[u8]) -> Vec<u16> {
 
 #[derive(Clone, Copy, PartialEq, Debug)]
 pub enum Reply {
+    Node(u8),
     Held,
     Gone,
     Same(usize),
@@ -812,6 +840,34 @@ pub fn equate(w: &mut Workspace, name: u16, left: u16, right: u16, buf: &mut [u8
     let reply = Reply::Refused(v, explain_fault(buf, &w.terms, &w.equations, &c, &height));
     w.equations.pop();
     reply
+}
+
+pub fn declare(w: &mut Workspace, symbol: u16, children: &[u16]) -> Reply {
+    let mut height = [0; 64];
+    if !shaped(w) || solve(&w.terms, &w.equations, w.equations.count, &mut height).1 != 0 {
+        return Reply::Refused(1, 0);
+    }
+    let t = &mut w.terms;
+    let n = t.count;
+    let refusal = if n >= 64 {
+        2
+    } else if children.len() > 4 {
+        3
+    } else if children.iter().any(|&c| c as usize >= n) {
+        4
+    } else if !arity_fits(t, n, symbol, children.len() as u8) {
+        18
+    } else {
+        0
+    };
+    if refusal != 0 {
+        return Reply::Refused(refusal, 0);
+    }
+    let mut bytes = [0u8; 4];
+    for (b, &c) in bytes.iter_mut().zip(children) {
+        *b = c as u8;
+    }
+    Reply::Node(t.put_functor(symbol, &bytes[..children.len()]))
 }
 
 pub fn withdraw(w: &mut Workspace, name: u16) -> Reply {

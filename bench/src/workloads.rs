@@ -139,6 +139,18 @@ fn tower() -> Workspace {
     w
 }
 
+/// The same without equations, and of 64 nodes without the last, so that one can be declared.
+pub fn room_for_a_node(w: &Workspace) -> Workspace {
+    let mut w = Workspace { terms: w.terms, equations: Equations::fresh() };
+    let t = &mut w.terms;
+    if t.count == 64 {
+        t.count = 63;
+        (t.kind[63], t.symbol[63], t.arity[63]) = (0, 0, 0);
+        t.child[252..].fill(0);
+    }
+    w
+}
+
 pub fn all() -> Vec<Workload> {
     let mut seed = Seed(0x9e37_79b9_7f4a_7c15);
     vec![

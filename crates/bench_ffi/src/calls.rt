@@ -1,7 +1,7 @@
 // The calls of `unifier`, their replies as three numbers: see `told`. None asks anything of its caller.
 ghost use mathlib.Core.Path.{_≡_};
 ghost use mathlib.Core.Option.{none};
-ghost use Rattle.graph.specs.State.{equationOf};
+ghost use Rattle.graph.specs.State.{functor, equationOf};
 ghost use Rattle.graph.specs.Book as book;
 ghost use Rattle.graph.specs.Goals.{same-goal};
 ghost use Rattle.unifier.specs.Answers.{Answers};
@@ -66,6 +66,22 @@ fn tell_check(reply: CheckReply) -> [u16; 3]
         CheckReply::Refused(k) => three(0, k as u16, 0),
         CheckReply::Broken(i) => three(0, 12, i),
     }
+}
+
+// Declares a functor node.
+#[no_mangle]
+pub extern "C" fn ffi_declare(
+    w: Workspace,
+    symbol: u16,
+    children: &[u16],
+    numbers: &mut [u16; 3],
+) -> Workspace
+    ensures { λ r. ⌜ ByNumbers (Answers w (book.declare (functor symbol (now (children .entry))))) (λ o. told (o .reply)) (λ o. o .workspace) (now (numbers .exit)) r ⌝ }
+{
+    let o = w.declare_functor(symbol, children);
+    let reply = o.reply;
+    *numbers = tell(reply);
+    o.workspace
 }
 
 #[no_mangle]

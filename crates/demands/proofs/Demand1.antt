@@ -3,7 +3,7 @@ use mathlib.Core.Path.{_≡_, refl, sym, ap, ap₂, _∙_}
 use mathlib.Core.Bool.{Bool, true, false, cond}
 use mathlib.Core.List.{List}
 use mathlib.Core.Option.{Option, none, some}
-use mathlib.Core.Logic.{_⊎_, inl, inr}
+use mathlib.Core.Logic.{_⊎_, inl, inr, ⊎-elim}
 use Prim.Native.Nat.{ℕ, _≤_}
 use native.Mathlib.Omega.{arith}
 use lib.ListN.{length}
@@ -197,14 +197,16 @@ offered-reply s before after (Refused k) h = rw (ne-eqb k 8 (λ e. omega (arith,
 offered-reply s before after (Clash n) h = refl
 offered-reply s before after (Cycle n) h = refl
 
-early-declared : (s : State) (n : GraphNode) (k : ℕ) → book.Refusal s (book.declare n) k → k ≤ 4
-early-declared s n k = go (leb 64 (length (s .nodes))) (ltb 4 (length (book.childrenOf n))) (book.allBelow (length (s .nodes)) (book.childrenOf n))
+early-declared : (s : State) (n : GraphNode) (k : ℕ) → book.Refusal s (book.declare n) k → (k ≤ 4) ⊎ (k ≡ 18)
+early-declared s n k =
+    go (leb 64 (length (s .nodes))) (ltb 4 (length (book.childrenOf n))) (book.allBelow (length (s .nodes)) (book.childrenOf n)) (book.nodeFits n (s .nodes))
   where
-    go : (x y z : Bool) → book.Else (cond x (some 2) (cond y (some 3) (cond z none (some 4)))) (book.Late s (book.declare n)) k → k ≤ 4
-    go true y z e = omega (arith, e)
-    go false true z e = omega (arith, e)
-    go false false true e = omega (arith, e)
-    go false false false e = omega (arith, e)
+    go : (x y z a : Bool) → book.Else (cond x (some 2) (cond y (some 3) (cond z (cond a none (some 18)) (some 4)))) (book.Late s (book.declare n)) k → (k ≤ 4) ⊎ (k ≡ 18)
+    go true y z a e = inl (omega (arith, e))
+    go false true z a e = inl (omega (arith, e))
+    go false false true true e = inl (omega (arith, e))
+    go false false true false e = inr e
+    go false false false a e = inl (omega (arith, e))
 
 early-withdrawn : (s : State) (n k : ℕ) → book.Refusal s (book.withdraw n) k → (k ≡ 0) ⊎ (k ≡ 10)
 early-withdrawn s n k = go (nameHeld n (s .equations))
@@ -249,7 +251,8 @@ module _ (w : Workspace) (ok : Valid w) (c : book.Call) (r q : Outcome) (A : Ans
 
 one-reply : (w : Workspace) → Valid w → OneReply w
 one-reply w ok = record {
-  declares = λ n r q A B. one-outcome w ok (book.declare n) r q A B (λ k h. let l = early-declared (stateOf w) n k h in (λ e. omega (arith, e, l), λ e. omega (arith, e, l)));
+  declares = λ n r q A B. one-outcome w ok (book.declare n) r q A B
+      (λ k h. ⊎-elim (λ l. (λ e. omega (arith, e, l), λ e. omega (arith, e, l))) (λ l. (λ e. omega (arith, e, l), λ e. omega (arith, e, l))) (early-declared (stateOf w) n k h));
   withdraws = λ n r q A B.
       one-outcome w ok (book.withdraw n) r q A B
       (λ k h. let l = early-withdrawn (stateOf w) n k h in (no-fault k 8 (λ z. omega (arith, z)) (λ z. omega (arith, z)) l, no-fault k 9 (λ z. omega (arith, z)) (λ z. omega (arith, z)) l));

@@ -3,7 +3,7 @@ use mathlib.Core.Path.{_≡_, refl, sym, ap, _∙_, subst}
 use mathlib.Core.List.{List, [], _∷_, map}
 use Prim.Native.Nat.{ℕ}
 use lib.ListN.{length}
-use Rattle.graph.specs.State.{State, emptyState}
+use Rattle.graph.specs.State.{State, emptyState, OneArity}
 use Rattle.graph.specs.Solution.{Solution}
 use Rattle.graph.specs.Book as book
 use Rattle.unifier.specs.Views.{Valid, stateOf, packed, freshWorkspace}
@@ -94,6 +94,7 @@ faithful calls results ran =
       lists = a .lists;
       valid = a .valid;
       solvable = subst Solution (a .lists) (a .valid .solution);
+      one-arity = subst (λ (s : State). OneArity (s .nodes)) (a .lists) (a .valid .shape .terms .one-arity);
       decides = λ e before after o.
           subst (λ (s : State). Offerable s e before → Equates (workspaceAfter freshWorkspace results) e before after o → OfferDecided s e before after (o .reply)) (a .lists)
           (decides (workspaceAfter freshWorkspace results) (a .valid) e before after o);

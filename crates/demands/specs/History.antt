@@ -13,7 +13,7 @@ use mathlib.Core.Option.{some}
 use Prim.Native.Nat.{ℕ, _*_, _<_, _≤_}
 use lib.ListN.{length, take}
 use Rattle.graph.specs.Limits.{equationLimit, bufferBytes}
-use Rattle.graph.specs.State.{Equation, State, emptyState, nameHeld, IsNode, offered}
+use Rattle.graph.specs.State.{Equation, State, emptyState, nameHeld, IsNode, OneArity, offered}
 use Rattle.graph.specs.Solution.{Solution}
 use Rattle.graph.specs.Goals.{Goal, clash-goal, cycle-goal, passed, Cites}
 use Rattle.graph.specs.Book as book
@@ -91,6 +91,8 @@ pub record Faithful (calls : List LentCall) (results : List Result) : Type 0 whe
   pub lists : stateOf (workspaceAfter freshWorkspace results) ≡ state
   pub valid : Valid (workspaceAfter freshWorkspace results)
   pub solvable : Solution state
+  -- document 02 (c)
+  pub one-arity : OneArity (state .nodes)
   -- one more offered equation
   pub decides : (e : Equation) (before after : List ℕ) (o : Outcome)
       → Offerable state e before → Equates (workspaceAfter freshWorkspace results) e before after o → OfferDecided state e before after (o .reply)

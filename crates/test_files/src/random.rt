@@ -14,7 +14,7 @@ use test_tools::workspaces;
 use unifier::Workspace;
 
 // Places of the counts are the replies' numbers; the last has the random state.
-const STATE: usize = 39;
+const STATE: usize = 63;
 
 // A linear congruential generator's next number, taken below n.
 fn draw(tally: &mut [usize], n: usize) -> usize {
@@ -109,7 +109,7 @@ fn rounds(tally: &mut [usize], proof: &mut [u8]) {
 }
 
 pub fn all(proof: &mut [u8]) {
-    let mut tally = [0usize; 40];
+    let mut tally = [0usize; 64];
     rounds(&mut tally, proof);
     print(
         b"random workspaces, held: #\nclash: #\ncycle: #\n",

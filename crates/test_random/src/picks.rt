@@ -30,16 +30,21 @@ fn more(m: &mut [usize], least: usize, n: usize) -> usize {
     std::num::wrapping_add_usize(least, draw(m, n))
 }
 
-// What a round's graph and equations are like. Tells how many calls it has.
-pub fn settings(m: &mut [usize]) -> usize {
-    let most = more(m, 4, 61);
-    put(m, MOST, most);
+// What a round's symbols are like.
+fn labels(m: &mut [usize]) {
     let symbols = more(m, 1, 8);
     put(m, SYMBOLS, symbols);
     let salt = draw(m, 5);
     put(m, SALT, salt);
     let spread = draw(m, 3);
     put(m, SPREAD, spread);
+}
+
+// What a round's graph and equations are like. Tells how many calls it has.
+pub fn settings(m: &mut [usize]) -> usize {
+    let most = more(m, 4, 61);
+    put(m, MOST, most);
+    labels(m);
     let pile = draw(m, 4);
     put(m, PILE, pile);
     put(m, FREED, 0);
@@ -145,11 +150,7 @@ pub fn arity(m: &mut [usize], symbol: usize) -> usize {
     if one_in(m, 16) {
         return draw(m, 5);
     }
-    std::num::wrapping_add_usize(
-        symbol >> 6,
-        std::num::wrapping_add_usize(symbol, get(m, SALT)),
-    )
-        % 5
+    std::num::wrapping_add_usize(symbol, get(m, SALT)) % 5
 }
 
 pub fn symbol(m: &mut [usize]) -> usize {

@@ -40,14 +40,15 @@ fn is_functor_of(m: &[usize], u: usize, symbol: usize) -> bool {
     (get(m, KIND | u) == 1) & (get(m, SYMBOL | u) == symbol)
 }
 
-// How many children the last functor node of a symbol has, or `otherwise` where there is none.
+// How many children the first functor node of a symbol has, or `otherwise` where there is none.
 pub fn arity_of(m: &[usize], symbol: usize, otherwise: usize) -> usize {
-    let mut u = get(m, NODES);
-    while 0 < u {
-        u -= 1;
+    let n = get(m, NODES);
+    let mut u: usize = 0;
+    while u < n {
         if is_functor_of(m, u, symbol) {
             return get(m, ARITY | u);
         }
+        u += 1;
     }
     otherwise
 }
