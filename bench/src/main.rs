@@ -16,15 +16,16 @@ use workloads::Workload;
 
 fn shape_rows(all: &[Workload]) {
     timing::title("the shape test");
-    for l in all {
-        let w = l.workspace;
+    let worst = ("64 symbols of one remainder", workloads::one_remainder());
+    for (name, w) in all.iter().map(|l| (l.name, l.workspace)).chain([worst]) {
+        assert!(plain::shaped(&w) && rattle::shaped(&w));
         let rust = || {
             black_box(plain::shaped(black_box(&w)));
         };
         let rattle = || {
             black_box(rattle::shaped(black_box(&w)));
         };
-        row(l.name, &mut [Side::of(rust), Side::of(rattle)]);
+        row(name, &mut [Side::of(rust), Side::of(rattle)]);
     }
 }
 

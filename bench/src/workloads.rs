@@ -139,6 +139,15 @@ fn tower() -> Workspace {
     w
 }
 
+/// 64 functor nodes whose symbols are all different and leave one remainder by 64: the shape test's worst case.
+pub fn one_remainder() -> Workspace {
+    let mut w = Workspace { terms: Terms::fresh(), equations: Equations::fresh() };
+    for i in 0..64 {
+        w.terms.put_functor(64 * i, &[]);
+    }
+    w
+}
+
 /// The same without equations, and of 64 nodes without the last, so that one can be declared.
 pub fn room_for_a_node(w: &Workspace) -> Workspace {
     let mut w = Workspace { terms: w.terms, equations: Equations::fresh() };

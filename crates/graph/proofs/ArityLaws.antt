@@ -3,6 +3,7 @@
 --   Misfit, misfit        where it fails, one of them has another number: what refusal 18 says of a declaration
 --   fits-by-one           of nodes that keep the rule, any one of the symbol decides it
 --   fits-snoc             the test of one node more
+--   equal-arities         where the rule holds, equal labels have equally many children: document 01's label says the same
 --   one-arity-declared, one-arity-before, last-fits   the rule with one node more is the rule and the test
 --   one-arity-runs        after every list of calls functor nodes of one symbol have equally many children
 use mathlib.Core.Path.{_≡_, refl, sym, ap, _∙_}
@@ -14,7 +15,7 @@ use Prim.Native.Nat.{ℕ, zero, suc}
 use lib.ListN.{length, getElem?}
 use lib.Dec.{eqb}
 use borrow.Author.Tests.{eqb-true, eqb-false, eq-eqb}
-use Rattle.graph.specs.State.{Node, variable, functor, State, OneArity}
+use Rattle.graph.specs.State.{Node, variable, functor, State, EqualLabels, OneArity}
 use Rattle.graph.specs.Book.{Call, declare, equate, withdraw, clear, Transition, childrenOf, arityFits, nodeFits, Refusal, accepted, Runs}
 use Rattle.base.proofs.AbsurdLaws.{zero-is-one, true-is-false}
 use Rattle.base.proofs.BoolLaws.{and-left, and-right, and-both, then-true, untrue-false}
@@ -76,6 +77,12 @@ module _ (f k : ℕ) where
       go : (b y z : Bool) {x : Bool} → x ≡ y && z → b && x ≡ (b && y) && z
       go true y z e = e
       go false y z e = refl
+
+-- ---- the rule
+
+pub equal-arities : (ns : List Node) → OneArity ns → (u v f g : ℕ) (cs ds : List ℕ) → getElem? ns u ≡ some (functor f cs) → getElem? ns v ≡ some (functor g ds)
+    → EqualLabels f g → length cs ≡ length ds
+equal-arities ns O u v f g cs ds p q e = O u v f cs ds p (rw e q)
 
 -- ---- one node more
 

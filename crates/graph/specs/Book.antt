@@ -3,8 +3,8 @@
 --   BookReply    a node's number, held, gone, cleared, or a refusal's number
 --   Transition, transition     a reply, and the state after the call
 --   removed, allBelow, childrenOf    equations without a name's; numbers below a bound; a node's children
---   arityFits, nodeFits              functor nodes of one symbol have k children; a node's own number of children is theirs
---   early        the first refusal that the two lists decide, in document 01's order; refusal 1 never applies
+--   arityFits, nodeFits              functor nodes of a symbol have k children; as many as a node of that symbol has
+--   early        the first refusal that the two lists decide, in the papers' order; refusal 1 never applies
 --   Late, Else   what the closure says of a call; where `early` refuses, that
 --   Refusal      the number of a call's refusal, 0 where it isn't refused; 8 and 9 come from the verdict of held and offered
 --   accepted     the reply to a call that isn't refused, and the lists after it

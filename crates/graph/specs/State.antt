@@ -69,8 +69,8 @@ nameHeld n (e ∷ es) = cond (eqb (e .name) n) true (nameHeld n es)
 abbrev pub EqualLabels : (f g : ℕ) → Type 0
 EqualLabels f g = f ≡ g
 
--- document 02 (c), the paper's signature: a symbol's arity is fixed. A state may break this, and then equal labels say too little of it; but no
--- list of calls leads to such a state (proofs/ArityLaws), and no workspace holds one (`TermsShape` of store)
+-- the paper's signature, document 02 (c): each symbol has one arity. `State` has values that break this, of which labels without the arity say
+-- too little; no list of calls leads to one (proofs/ArityLaws), and no workspace holds one (`TermsShape` of store)
 abbrev pub OneArity : List Node → Type 0
 OneArity ns =
     (u v f : ℕ) (cs ds : List ℕ) → getElem? ns u ≡ some (functor f cs) → getElem? ns v ≡ some (functor f ds) → length cs ≡ length ds

@@ -5,7 +5,8 @@ use Prim.Native.Nat.{ℕ, _≤_, _<_}
 use native.Mathlib.Omega.{arith}
 use lib.ListN.{length}
 use Rattle.graph.specs.State.{functor, State, IsNode, NodeAt}
-use Rattle.store.specs.Views.{symbolAt, arityAt, childrenAt}
+use Rattle.graph.proofs.ArityLaws.{equal-arities}
+use Rattle.store.specs.Views.{symbolAt, arityAt, childrenAt, nodesOf}
 use Rattle.store.specs.Shape.{TermsShape}
 use Rattle.store.specs.declared.Terms.{Terms}
 use Rattle.store.proofs.ViewLaws as view
@@ -42,5 +43,5 @@ formed g S =
 pub alike-arities : (g : Terms) → Formed g → (u v : ℕ) → IsFunctor g u → IsFunctor g v → Alike g u v → arityAt g u ≡ arityAt g v
 alike-arities g F u v Fu Fv A =
     sym (view.children-length g u)
-    ∙ F .one-arity u v (symbolAt g u) (childrenAt g u) (childrenAt g v) (view.functor-found g u (Fu .known) (Fu .kind)) (rw A (view.functor-found g v (Fv .known) (Fv .kind)))
+    ∙ equal-arities (nodesOf g) (F .one-arity) u v _ _ _ _ (view.functor-found g u (Fu .known) (Fu .kind)) (view.functor-found g v (Fv .known) (Fv .kind)) A
     ∙ view.children-length g v

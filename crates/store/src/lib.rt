@@ -1,4 +1,4 @@
-// The fixed arrays that a workspace is made of: nodes and held equations.
+// The fixed arrays that a workspace is made of: nodes and held equations; and a table of heads, for groups of nodes.
 ghost use mathlib.Core.Path.{_≡_};
 ghost use mathlib.Core.List.{List};
 ghost use Prim.Native.Nat.{ℕ, _+_, _≤_, _<_};
@@ -52,8 +52,8 @@ pub fn all_below(children: &[u16], n: u16) -> bool
     true
 }
 
-// Whether each functor node of symbol f among the first n has k children. No way out in the middle, so that the compiler can take many
-// nodes at a time.
+// Whether each functor node of symbol f among the first n has k children, whichever. No way out in the middle, so that the compiler can take
+// many nodes at a time.
 pub fn arity_fits<'a>(
     kind: &'a [u8; 64],
     symbol: &'a [u16; 64],
