@@ -1,26 +1,29 @@
 -- One number of children for each symbol (document 02 (c)).
 --   fits-at, at-fits      the test passes exactly where each functor node of the symbol has that number of children
---   Misfit, misfit        where it fails, one of them has another number: what refusal 18 says of a declaration
+--   Misfit, misfit        where it fails, one of them has another number
+--   eighteen-just, eighteen-so, variable-fits   a declaration past refusals 2, 3 and 4 is refused with 18 exactly then
 --   fits-by-one           of nodes that keep the rule, any one of the symbol decides it
 --   fits-snoc             the test of one node more
 --   equal-arities         where the rule holds, equal labels have equally many children: document 01's label says the same
---   one-arity-declared, one-arity-before, last-fits   the rule with one node more is the rule and the test
+--   one-arity-declared, last-fits   the rule with one node more is the rule and the test
 --   one-arity-runs        after every list of calls functor nodes of one symbol have equally many children
 use mathlib.Core.Path.{_≡_, refl, sym, ap, _∙_}
 use mathlib.Core.Logic.{⊎-elim}
-use mathlib.Core.Bool.{Bool, true, false, not, _&&_, _||_}
+use mathlib.Core.Bool.{Bool, true, false, not, _&&_, _||_, cond}
 use mathlib.Core.List.{List, [], _∷_, _++_}
-use mathlib.Core.Option.{some}
-use Prim.Native.Nat.{ℕ, zero, suc}
+use mathlib.Core.Option.{none, some}
+use Prim.Native.Nat.{ℕ, zero, suc, _≤_, _<_}
+use native.Mathlib.Omega.{arith}
 use lib.ListN.{length, getElem?}
-use lib.Dec.{eqb}
-use borrow.Author.Tests.{eqb-true, eqb-false, eq-eqb}
+use lib.Dec.{eqb, ltb, leb}
+use borrow.Author.Tests.{eqb-true, eqb-false, eq-eqb, lt-leb, le-ltb}
+use Rattle.graph.specs.Limits.{nodeLimit, childLimit}
 use Rattle.graph.specs.State.{Node, variable, functor, State, EqualLabels, OneArity}
-use Rattle.graph.specs.Book.{Call, declare, equate, withdraw, clear, Transition, childrenOf, arityFits, nodeFits, Refusal, accepted, Runs}
+use Rattle.graph.specs.Book.{Call, declare, equate, withdraw, clear, Transition, allBelow, childrenOf, arityFits, nodeFits, Late, Else, Refusal, accepted, Runs}
 use Rattle.base.proofs.AbsurdLaws.{zero-is-one, true-is-false}
 use Rattle.base.proofs.BoolLaws.{and-left, and-right, and-both, then-true, untrue-false}
 use Rattle.base.proofs.ListLaws.{found-append, found-last, found-snoc}
-use Rattle.graph.proofs.AcceptLaws.{declare-accepted, runs-keep}
+use Rattle.graph.proofs.AcceptLaws.{arity-differs, declare-accepted, runs-keep}
 
 -- ---- the test
 
@@ -100,9 +103,6 @@ module _ (ns : List Node) (n : Node) where
       with-new : (f : ℕ) (es xs : List ℕ) → n ≡ functor f es → (x : ℕ) → getElem? ns x ≡ some (functor f xs) → length xs ≡ length es
       with-new f es xs e x q = fits-at f (length es) ns x xs (rw e at a) q
 
-  pub one-arity-before : OneArity (ns ++ (n ∷ [])) → OneArity ns
-  one-arity-before O u v f cs ds h k = O u v f cs ds (found-append ns (n ∷ []) u (functor f cs) h) (found-append ns (n ∷ []) v (functor f ds) k)
-
 pub last-fits : (ns : List Node) (n : Node) → OneArity (ns ++ (n ∷ [])) → nodeFits n ns ≡ true
 last-fits ns variable O = refl
 last-fits ns (functor f cs) O =
@@ -110,6 +110,30 @@ last-fits ns (functor f cs) O =
     O v (length ns) f ds cs (found-append ns (functor f cs ∷ []) v (functor f ds) h) (found-last ns (length ns) (functor f cs) refl))
 
 -- ---- the book's calls
+
+-- what is refused with 18, some refusal of the lists or none
+refused-so : (s : State) (n : Node) (x y z a : Bool) → Else (cond x (some 2) (cond y (some 3) (cond z (cond a none (some 18)) (some 4)))) (Late s (declare n)) 18 → a ≡ false
+refused-so s n true y z a e = absurd (omega (arith, e))
+refused-so s n false true z a e = absurd (omega (arith, e))
+refused-so s n false false true true e = absurd (omega (arith, e))
+refused-so s n false false true false e = refl
+refused-so s n false false false a e = absurd (omega (arith, e))
+
+module _ (s : State) where
+  eighteen : (n : Node) → Refusal s (declare n) 18 → nodeFits n (s .nodes) ≡ false
+  eighteen n = refused-so s n (leb nodeLimit (length (s .nodes))) (ltb childLimit (length (childrenOf n))) (allBelow (length (s .nodes)) (childrenOf n)) (nodeFits n (s .nodes))
+
+  pub eighteen-just : (f : ℕ) (cs : List ℕ) → Refusal s (declare (functor f cs)) 18 → Misfit f (length cs) (s .nodes)
+  eighteen-just f cs v = misfit f (length cs) (s .nodes) (eighteen (functor f cs) v)
+
+  pub eighteen-so : (f : ℕ) (cs : List ℕ) → length (s .nodes) < nodeLimit → length cs ≤ childLimit → allBelow (length (s .nodes)) cs ≡ true
+      → Misfit f (length cs) (s .nodes) → Refusal s (declare (functor f cs)) 18
+  eighteen-so f cs h k a m =
+      let b : arityFits f (length cs) (s .nodes) ≡ false = untrue-false _ (λ t. m .3 (fits-at f (length cs) (s .nodes) (m .0) (m .1) t (m .2))) in
+      rw (arity-differs s (functor f cs) (lt-leb nodeLimit (length (s .nodes)) h) (le-ltb childLimit (length cs) k) a b) refl
+
+  pub variable-fits : Refusal s (declare variable) 18 → ⊥
+  variable-fits v = true-is-false (eighteen variable v)
 
 pub one-arity-accepted : (s : State) → OneArity (s .nodes) → (c : Call) → Refusal s c 0 → OneArity (accepted s c .state .nodes)
 one-arity-accepted s O (declare n) v = one-arity-declared (s .nodes) n (declare-accepted s n v .fits) O
