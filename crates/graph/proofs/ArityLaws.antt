@@ -112,16 +112,16 @@ last-fits ns (functor f cs) O =
 -- ---- the book's calls
 
 -- what is refused with 18, some refusal of the lists or none
-refused-so : (s : State) (n : Node) (x y z a : Bool) → Else (cond x (some 2) (cond y (some 3) (cond z (cond a none (some 18)) (some 4)))) (Late s (declare n)) 18 → a ≡ false
-refused-so s n true y z a e = absurd (omega (arith, e))
-refused-so s n false true z a e = absurd (omega (arith, e))
-refused-so s n false false true true e = absurd (omega (arith, e))
-refused-so s n false false true false e = refl
-refused-so s n false false false a e = absurd (omega (arith, e))
+eighteen-of : (s : State) (n : Node) (x y z a : Bool) → Else (cond x (some 2) (cond y (some 3) (cond z (cond a none (some 18)) (some 4)))) (Late s (declare n)) 18 → a ≡ false
+eighteen-of s n true y z a e = absurd (omega (arith, e))
+eighteen-of s n false true z a e = absurd (omega (arith, e))
+eighteen-of s n false false true true e = absurd (omega (arith, e))
+eighteen-of s n false false true false e = refl
+eighteen-of s n false false false a e = absurd (omega (arith, e))
 
 module _ (s : State) where
   eighteen : (n : Node) → Refusal s (declare n) 18 → nodeFits n (s .nodes) ≡ false
-  eighteen n = refused-so s n (leb nodeLimit (length (s .nodes))) (ltb childLimit (length (childrenOf n))) (allBelow (length (s .nodes)) (childrenOf n)) (nodeFits n (s .nodes))
+  eighteen n = eighteen-of s n (leb nodeLimit (length (s .nodes))) (ltb childLimit (length (childrenOf n))) (allBelow (length (s .nodes)) (childrenOf n)) (nodeFits n (s .nodes))
 
   pub eighteen-just : (f : ℕ) (cs : List ℕ) → Refusal s (declare (functor f cs)) 18 → Misfit f (length cs) (s .nodes)
   eighteen-just f cs v = misfit f (length cs) (s .nodes) (eighteen (functor f cs) v)

@@ -1,10 +1,10 @@
 -- A word with one bit more, and a set of numbers with one number more.
 use mathlib.Core.Path.{_≡_, refl, sym, ap, _∙_}
 use mathlib.Core.Bool.{Bool, true, false}
-use mathlib.Core.Logic.{_⊎_, ⊎-elim}
+use mathlib.Core.Logic.{⊎-elim}
 use mathlib.Core.List.{List}
 use Prim.Native.Nat.{ℕ, zero, suc, _+_, _*_, _-_, _/_, _%_, _^_, _<_}
-use native.Mathlib.Nat.{mod-lt, div-eq-of-lt, zero-div, div-add-mod', eq-or-lt-of-le, le-of-suc-le-suc, not-suc-le-zero}
+use native.Mathlib.Nat.{mod-lt, div-eq-of-lt, zero-div, div-add-mod', eq-or-lt-of-le, not-suc-le-zero}
 use native.Mathlib.Omega.{arith}
 use lib.Bits.{bitOr, or-shr, or-mod, or-zero-r, shifted-even}
 use lib.Pow.{pow-lt, pow-add, shl-shr, shl-exact}
@@ -12,7 +12,7 @@ use lib.Dec.{eqb, lit<}
 use borrow.Author.Tests.{eqb-true, eqb-false}
 use lib.ListN.{length, getD, set, replicate, length-set, length-replicate, getD-replicate, List·getD-eq-default}
 use lib.Seq.{getD-set-same, getD-set-other}
-use Rattle.base.proofs.CaseLaws.{below-or-from, same-or-other}
+use Rattle.base.proofs.CaseLaws.{below-or-from, same-or-other, last-or-before}
 use Rattle.store_shape.specs.Rules.{Distinct}
 use Rattle.base.specs.Tells.{Each}
 use Rattle.store_shape.specs.Bits.{bitAt, BitNoted, Marks}
@@ -120,14 +120,11 @@ module _ (seen next l : List ℕ) (i : ℕ) (b : Bool) (N : NewTo seen l i) (not
   pub new-more : b ≡ true → NewTo next l (i + 1)
   new-more e = record {
     marks = record { members = members; only = only };
-    distinct = λ j k h g q. ⊎-elim (λ p. fresh e j (omega arith) (q ∙ ap (λ (x : ℕ). getD l x 0) p)) (λ p. N .distinct j k h p q) (last k g);
+    distinct = λ j k h g q. ⊎-elim (λ p. fresh e j (omega arith) (q ∙ ap (λ (x : ℕ). getD l x 0) p)) (λ p. N .distinct j k h p q) (last-or-before i k g);
   }
     where
-      last : (k : ℕ) → k < i + 1 → (k ≡ i) ⊎ (k < i)
-      last k h = eq-or-lt-of-le (le-of-suc-le-suc (omega (arith, h)))
-
       members : Each (λ k. bitAt next (getD l k 0) ≡ 1) (i + 1)
-      members k h = ⊎-elim (λ p. ap (λ (x : ℕ). bitAt next (getD l x 0)) p ∙ noted .set) (λ p. noted .others (getD l k 0) (fresh e k p) ∙ N .marks .members k p) (last k h)
+      members k h = ⊎-elim (λ p. ap (λ (x : ℕ). bitAt next (getD l x 0)) p ∙ noted .set) (λ p. noted .others (getD l k 0) (fresh e k p) ∙ N .marks .members k p) (last-or-before i k h)
 
       only : (y : ℕ) → ((k : ℕ) → k < i + 1 → getD l k 0 ≡ y → ⊥) → bitAt next y ≡ 0
       only y h = noted .others y (λ q. h i (omega arith) (sym q)) ∙ N .marks .only y (λ k g. h k (omega arith))

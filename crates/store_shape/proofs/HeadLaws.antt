@@ -1,11 +1,14 @@
 -- One number of children for each symbol: node by node, by the heads of symbols.
+--   rule-none, rule-more, rule-not, rule-any   the rule of the first nodes, one more that fits, one that doesn't, whichever children
+--   heads-none, heads-more                     the heads of the first nodes, and of one more
+--   fits-alone, fits-head, fits-all            what the head that a node meets says of it: none, of its symbol, of another
 use mathlib.Core.Path.{_≡_, sym, ap, _∙_, subst}
 use mathlib.Core.Bool.{Bool, true, false}
-use mathlib.Core.Logic.{_⊎_, ⊎-elim}
+use mathlib.Core.Logic.{⊎-elim}
 use mathlib.Core.List.{List, []}
 use mathlib.Core.Option.{some}
 use Prim.Native.Nat.{ℕ, _+_, _%_, _≤_, _<_}
-use native.Mathlib.Nat.{mod-lt, le-of-suc-le-suc, eq-or-lt-of-le, not-suc-le-zero}
+use native.Mathlib.Nat.{mod-lt, not-suc-le-zero}
 use native.Mathlib.Omega.{arith}
 use lib.ListN.{length, getD, getElem?, set, replicate, length-set, length-replicate, getD-replicate}
 use lib.Seq.{getD-set-same, getD-set-other}
@@ -16,7 +19,7 @@ use Rattle.graph.specs.Book.{arityFits, nodeFits}
 use Rattle.graph.proofs.ArityLaws.{at-fits, fits-by-one, one-arity-empty, one-arity-declared, last-fits}
 use Rattle.base.specs.Tells.{Tells}
 use Rattle.base.proofs.AbsurdLaws.{true-is-false}
-use Rattle.base.proofs.CaseLaws.{same-or-other}
+use Rattle.base.proofs.CaseLaws.{same-or-other, last-or-before}
 use Rattle.base.proofs.TabLaws.{tab-none}
 use Rattle.base.proofs.TellLaws.{tells-not}
 use Rattle.store.specs.Views.{terms, childrenAt, nodeAt, nodesOf}
@@ -24,11 +27,8 @@ use Rattle.store.specs.Heads.{noHead, Meets, variable, first, further}
 use Rattle.store.specs.declared.Terms.{Terms}
 use Rattle.store.proofs.ViewLaws.{node-found, node-known, functor-found, functor-known, children-length}
 use Rattle.store.proofs.FitLaws.{nodes-more}
-use Rattle.store_shape.specs.Rules.{ArityRule}
+use Rattle.store_shape.specs.Rules.{ArityRule, FitsBefore}
 use Rattle.store_shape.specs.SymbolHeads.{SymbolHeads}
-
-last : (i u : ℕ) → i < u + 1 → (i ≡ u) ⊎ (i < u)
-last i u h = eq-or-lt-of-le (le-of-suc-le-suc (omega (arith, h)))
 
 -- ---- the rule
 
@@ -41,9 +41,8 @@ module _ (kind symbol arity : List ℕ) where
   rule-none child = subst OneArity (sym (tab-none (nodeAt (nodes 0 child)))) one-arity-empty
 
   -- one node more, which fits
-  pub rule-more : (u : ℕ) {r : Bool} → ArityRule kind symbol arity u → r ≡ true
-      → ((child : List ℕ) → r ≡ nodeFits (nodeAt (nodes u child) u) (nodesOf (nodes u child))) → ArityRule kind symbol arity (u + 1)
-  rule-more u O e f child =
+  pub rule-more : (u : ℕ) (r : Bool) → ArityRule kind symbol arity u → r ≡ true → FitsBefore kind symbol arity u r → ArityRule kind symbol arity (u + 1)
+  rule-more u r O e f child =
       subst OneArity (sym (nodes-more kind symbol arity child u)) (one-arity-declared (nodesOf (nodes u child)) (nodeAt (nodes u child) u) (sym (f child) ∙ e) (O child))
 
   -- of fewer nodes
@@ -54,9 +53,8 @@ module _ (kind symbol arity : List ℕ) where
       moved x m h = let w = node-known (nodes k child) x m h in node-found (nodes n child) x (omega (arith, w .0)) ∙ ap some (w .1)
 
   -- one node that doesn't fit those before it
-  pub rule-not : (u n : ℕ) {r : Bool} → u < n → r ≡ false
-      → ((child : List ℕ) → r ≡ nodeFits (nodeAt (nodes u child) u) (nodesOf (nodes u child))) → Tells (ArityRule kind symbol arity n) false
-  rule-not u n h e f =
+  pub rule-not : (u n : ℕ) (r : Bool) → u < n → r ≡ false → FitsBefore kind symbol arity u r → Tells (ArityRule kind symbol arity n) false
+  rule-not u n r h e f =
       tells-not (λ O.
       let o : OneArity (nodesOf (nodes (u + 1) [])) = rule-fewer (u + 1) n (omega arith) O [] in
       true-is-false (sym (last-fits (nodesOf (nodes u [])) (nodeAt (nodes u []) u) (subst OneArity (nodes-more kind symbol arity [] u) o)) ∙ sym (f []) ∙ e))
@@ -95,7 +93,7 @@ module _ (kind symbol : List ℕ) where
       size = H .size;
       earlier = λ h l e. omega (arith, H .earlier h l e);
       functor = H .functor;
-      headed = λ v l k. ⊎-elim (λ q. rw q (own (rw q at k))) (λ q. H .headed v q k) (last v u l);
+      headed = λ v l k. ⊎-elim (λ q. rw q (own (rw q at k))) (λ q. H .headed v q k) (last-or-before u v l);
     }
 
     module _ (k : getD kind u 0 ≡ 1) where
@@ -120,7 +118,7 @@ module _ (kind symbol : List ℕ) where
         functor = λ h l e. ⊎-elim (λ q. rw (here h q) k) (λ d. rw (there h d) (H .functor h l (rw (there h d) at e))) (same-or-other at h);
         headed = λ v l c.
             ⊎-elim (λ q. omega (arith, here (getD symbol v 0 % 64) q, few))
-            (λ d. ⊎-elim (λ q. absurd (d (ap (λ (x : ℕ). getD symbol x 0 % 64) q))) (λ q. omega (arith, there (getD symbol v 0 % 64) d, H .headed v q c)) (last v u l))
+            (λ d. ⊎-elim (λ q. absurd (d (ap (λ (x : ℕ). getD symbol x 0 % 64) q))) (λ q. omega (arith, there (getD symbol v 0 % 64) d, H .headed v q c)) (last-or-before u v l))
             (same-or-other at (getD symbol v 0 % 64));
       }
 
@@ -143,7 +141,7 @@ module _ (kind symbol : List ℕ) where
       own-fits child k = rw (eq-eqb (getD kind u 0) 1 k) (ap (λ (x : ℕ). arityFits (getD symbol u 0) x (before child)) (children-length (terms u kind symbol arity child) u))
 
       -- no head is met: u is a variable, or no node before it leaves its symbol's remainder
-      pub fits-alone : noHead ≤ v → (child : List ℕ) → true ≡ nodeFits (this child) (before child)
+      pub fits-alone : noHead ≤ v → FitsBefore kind symbol arity u true
       fits-alone l child = go M l
         where
           go : {next : List ℕ} {v : ℕ} → Meets head c u (getD kind u 0) next v → noHead ≤ v → true ≡ nodeFits (this child) (before child)
@@ -169,7 +167,7 @@ module _ (kind symbol : List ℕ) where
 
       -- one of its symbol decides
       pub fits-head : v < noHead → getD symbol v 0 ≡ getD symbol u 0 → ArityRule kind symbol arity u
-          → (child : List ℕ) → eqb (getD arity v 0) (getD arity u 0) ≡ nodeFits (this child) (before child)
+          → FitsBefore kind symbol arity u (eqb (getD arity v 0) (getD arity u 0))
       fits-head l s O child =
           let m = met l in
           let t = terms u kind symbol arity child in
@@ -179,5 +177,5 @@ module _ (kind symbol : List ℕ) where
 
       -- the test of all nodes before it does
       pub fits-all : v < noHead → {r : Bool} → ((child : List ℕ) → r ≡ arityFits (getD symbol u 0) (getD arity u 0) (before child))
-          → (child : List ℕ) → r ≡ nodeFits (this child) (before child)
+          → FitsBefore kind symbol arity u r
       fits-all l f child = f child ∙ sym (own-fits child (met l .0))

@@ -1,14 +1,12 @@
 // The test that arrays of nodes and equations, with any values whatever in them, are well-shaped.
 ghost use mathlib.Core.Path.{_≡_};
 ghost use mathlib.Core.Bool.{true, false};
-ghost use mathlib.Core.List.{List};
-ghost use Prim.Native.Nat.{ℕ, _+_, _*_, _≤_, _<_};
+ghost use Prim.Native.Nat.{_+_, _*_, _≤_, _<_};
 ghost use lib.ListN.{length, getD};
 ghost use Rattle.graph.specs.Limits.{nodeLimit, childLimit, equationLimit};
-ghost use Rattle.graph.specs.Book.{nodeFits};
-ghost use Rattle.store.specs.Views.{terms, equations, nodeAt, nodesOf};
+ghost use Rattle.store.specs.Views.{terms, equations};
 ghost use Rattle.store.specs.Shape.{TermsShape, EquationsShape, Shape};
-ghost use Rattle.store_shape.specs.Rules.{EachBelow, ZeroFrom, Distinct, Head, ChildRule, NodeRule, ArityRule, EndRules, Sizes, EndSizes};
+ghost use Rattle.store_shape.specs.Rules.{EachBelow, ZeroFrom, Distinct, Head, ChildRule, NodeRule, ArityRule, FitsBefore, EndRules, Sizes, EndSizes};
 ghost use Rattle.base.specs.Tells.{Tells, Each};
 ghost use Rattle.store_shape.specs.Bits.{BitNoted, Marks};
 ghost use Rattle.store_shape.specs.SymbolHeads.{SymbolHeads};
@@ -131,9 +129,7 @@ fn node_fits<'a>(
 ) -> bool
     requires { ⌜ (u < nodeLimit) × SymbolHeads (now kind) (now symbol) (now head) u × ArityRule (now kind) (now symbol) (now arity) u ⌝ }
     ensures { λ r. ⌜ SymbolHeads (now (kind .entry)) (now (symbol .entry)) (now (head .exit)) (u + 1) ⌝ }
-    ensures { λ r. ⌜ ((child : List ℕ)
-        → r ≡ nodeFits (nodeAt (terms u (now (kind .entry)) (now (symbol .entry)) (now (arity .entry)) child) u)
-        (nodesOf (terms u (now (kind .entry)) (now (symbol .entry)) (now (arity .entry)) child))) ⌝ }
+    ensures { λ r. ⌜ FitsBefore (now (kind .entry)) (now (symbol .entry)) (now (arity .entry)) u r ⌝ }
 {
     let symbols: &[u16] = symbol;
     let arities: &[u8] = arity;

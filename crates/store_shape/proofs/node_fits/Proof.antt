@@ -24,7 +24,7 @@ returns-2 c =
     let s = m .before .before .before .before .before .before in
     let M = m .visit .ensures in (
       heads-more _ _ _ _ (s .pre .0) (s .pre .1) _ refl M,
-      rw (w .wide .ensures) (fits-head _ _ _ _ (s .pre .0) (s .pre .1) _ refl M (l .if1 .left) (rw (w .wide .ensures) at (i .if2 .taken)) (s .pre .2)),
+      rw (w .wide .ensures) (fits-head _ _ _ _ (s .pre .0) (s .pre .1) (s .args .arity .now) refl M (l .if1 .left) (rw (w .wide .ensures) at (i .if2 .taken)) (s .pre .2)),
     )
 
 returns-3 : tie.Need-returns-3
@@ -33,7 +33,7 @@ returns-3 c =
     let m = l .before in
     let s = m .before .before .before .before .before .before in
     let M = m .visit .ensures in
-    (heads-more _ _ _ _ (s .pre .0) (s .pre .1) _ refl M, fits-all _ _ _ _ (s .pre .0) (s .pre .1) _ refl M (l .if1 .left) (c .arity-fits .ensures))
+    (heads-more _ _ _ _ (s .pre .0) (s .pre .1) _ refl M, fits-all _ _ _ _ (s .pre .0) (s .pre .1) (s .args .arity .now) refl M (l .if1 .left) (c .arity-fits .ensures))
 
 pub node-fits-spec : {M : Type 1} → statement M
 node-fits-spec =

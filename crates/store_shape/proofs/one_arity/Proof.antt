@@ -27,13 +27,13 @@ node-fits-requires c κs =
 returns : tie.Need-returns Inv-loop μ-loop
 returns c =
     let f = c .before .node-fits in
-    rule-not _ _ _ _ _ (search needs) (not-true (f .result) (c .if1 .taken)) (f .ensures .1)
+    rule-not _ _ _ _ _ (f .result) (search needs) (not-true (f .result) (c .if1 .taken)) (f .ensures .1)
 
 loop-again : tie.Need-loop-again Inv-loop μ-loop
 loop-again c =
     let f = c .before .node-fits in
     let a = c .before .before .before .before in
-    (search needs, f .ensures .0, rule-more _ _ _ _ (a .loop .inv .2) (not-false (f .result) (c .if1 .left)) (f .ensures .1))
+    (search needs, f .ensures .0, rule-more _ _ _ _ (f .result) (a .loop .inv .2) (not-false (f .result) (c .if1 .left)) (f .ensures .1))
 
 returns-2 : tie.Need-returns-2 Inv-loop μ-loop
 returns-2 c = tells-at (ArityRule _ _ _) (tells-yes (c .before .loop .inv .2)) (omega arith)
