@@ -1,7 +1,6 @@
 -- Laws of the arrays.
 --   ViewLaws         the arrays read as lists
 --   BelowLaws        all of a list's numbers below a bound
---   FitLaws          a symbol's number of children, one node at a time
 --   FindLaws         the first equation of a name
 --   RemoveLaws       the first place of a name, and that place taken out
 --   PutNodeLaws      one node more at the end
@@ -9,7 +8,6 @@
 --   PackLaws         the two views are inverse
 pub mod ViewLaws
 pub mod BelowLaws
-pub mod FitLaws
 pub mod FindLaws
 pub mod RemoveLaws
 pub mod PutNodeLaws

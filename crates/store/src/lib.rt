@@ -1,14 +1,13 @@
 // The fixed arrays that a workspace is made of: nodes and held equations; and a table of heads, for groups of nodes.
 ghost use mathlib.Core.Path.{_≡_};
-ghost use mathlib.Core.List.{List};
-ghost use Prim.Native.Nat.{ℕ, _+_, _≤_, _<_};
+ghost use Prim.Native.Nat.{_+_, _≤_, _<_};
 ghost use mathlib.Core.Bool.{true};
 ghost use lib.ListN.{length, set};
 ghost use lib.Seq.{paste};
 ghost use Rattle.graph.specs.Limits.{nodeLimit, equationLimit};
 ghost use Rattle.graph.specs.State.{Node};
-ghost use Rattle.graph.specs.Book.{allBelow, arityFits};
-ghost use Rattle.store.specs.Views.{terms, nodesOf, freshTerms, freshEquations};
+ghost use Rattle.graph.specs.Book.{allBelow};
+ghost use Rattle.store.specs.Views.{freshTerms, freshEquations};
 ghost use Rattle.store.specs.Operations.{First, Room, PutsNode, PutsEquation, Removes, withVariable, withFunctor, closed};
 ghost use Rattle.store.specs.Heads.{Meets};
 
@@ -50,31 +49,6 @@ pub fn all_below(children: &[u16], n: u16) -> bool
         i += 1;
     }
     true
-}
-
-// Whether each functor node of symbol f among the first n has k children, whichever. No way out in the middle, so that the compiler can take
-// many nodes at a time.
-pub fn arity_fits<'a>(
-    kind: &'a [u8; 64],
-    symbol: &'a [u16; 64],
-    arity: &'a [u8; 64],
-    n: usize,
-    f: u16,
-    k: u8,
-) -> bool
-    requires { ⌜ n ≤ nodeLimit ⌝ }
-    ensures { λ r. ⌜ ((child : List ℕ) → r ≡ arityFits f k (nodesOf (terms n (now (kind .entry)) (now (symbol .entry)) (now (arity .entry)) child))) ⌝ }
-{
-    let kinds: &[u8] = kind;
-    let symbols: &[u16] = symbol;
-    let arities: &[u8] = arity;
-    let mut ok = true;
-    let mut u = 0;
-    while u < n {
-        ok = ok & ((kinds[u] != 1) | (symbols[u] != f) | (arities[u] == k));
-        u += 1;
-    }
-    ok
 }
 
 // Stands for the head of a group that has none.

@@ -1,9 +1,7 @@
 -- Laws of the shape test.
 --   RuleLaws    the rules of a node, and zeros in unused places
 --   BitLaws     the set of names
---   HeadLaws    one number of children for each symbol, by heads
 --   ShapeLaws   the rules together are the shape
 pub mod RuleLaws
 pub mod BitLaws
-pub mod HeadLaws
 pub mod ShapeLaws

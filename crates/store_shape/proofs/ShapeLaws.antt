@@ -11,10 +11,11 @@ use Rattle.graph.specs.Limits.{nodeLimit, childLimit, equationLimit}
 use Rattle.store.specs.Views.{terms, equations}
 use Rattle.store.specs.Shape.{TermsShape, EquationsShape, Shape}
 use Rattle.base.proofs.CaseLaws.{below-or-from}
-use Rattle.store_shape.specs.Rules.{EachBelow, ZeroFrom, Distinct, NodeRule, ArityRule, EndRules, Sizes, EndSizes}
+use Rattle.store_shape.specs.Rules.{EachBelow, ZeroFrom, Distinct, NodeRule, EndRules, Sizes, EndSizes}
 use Rattle.base.specs.Tells.{Tells, Each}
 use Rattle.base.proofs.TellLaws.{tells-not, tells-same, tells-both}
-use Rattle.store_shape.proofs.HeadLaws.{rule-any}
+use Rattle.store_arity.specs.Rule.{ArityRule}
+use Rattle.store_arity.proofs.HeadLaws.{rule-any}
 
 -- ---- nodes
 

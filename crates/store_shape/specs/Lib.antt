@@ -1,4 +1,3 @@
--- The rules that the shape test goes through, the bit set of names, and the heads of symbols.
+-- The rules that the shape test goes through, and the bit set of names.
 pub mod Rules
 pub mod Bits
-pub mod SymbolHeads

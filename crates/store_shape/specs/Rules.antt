@@ -1,18 +1,12 @@
 -- The rules that the shape test goes through one by one (document 01, "Workspace and terms").
 --   EachBelow, ZeroFrom, Distinct   an array's first n below a bound; zero from place k on; the first n all different
 --   Head, ChildRule, NodeRule       the rules of one node: of its kind, symbol and number of children; of one child place; both
---   ArityRule   of the first n nodes, functor nodes of one symbol have equally many children
---   FitsBefore  what a test says of node u and those before it: what `early` asks of a declaration
 --   EndRules    the rules of equations, but that names are all different
 use mathlib.Core.Path.{_≡_}
-use mathlib.Core.Bool.{Bool}
 use mathlib.Core.List.{List}
 use Prim.Native.Nat.{ℕ, _+_, _*_, _≤_, _<_}
 use lib.ListN.{length, getD}
 use Rattle.graph.specs.Limits.{nodeLimit, childLimit, equationLimit}
-use Rattle.graph.specs.State.{OneArity}
-use Rattle.graph.specs.Book.{nodeFits}
-use Rattle.store.specs.Views.{terms, nodeAt, nodesOf}
 use Rattle.base.specs.Tells.{Each}
 
 abbrev pub EachBelow : List ℕ → ℕ → ℕ → Type 0
@@ -40,14 +34,6 @@ pub record ChildRule (a u c j : ℕ) : Type 0 where
 pub record NodeRule (kind symbol arity child : List ℕ) (u : ℕ) : Type 0 where
   pub head : Head (getD kind u 0) (getD symbol u 0) (getD arity u 0)
   pub places : Each (λ j. ChildRule (getD arity u 0) u (getD child (4 * u + j) 0) j) childLimit
-
--- both are of three arrays, whichever children the nodes have
-abbrev pub ArityRule : (kind symbol arity : List ℕ) (n : ℕ) → Type 0
-ArityRule kind symbol arity n = (child : List ℕ) → OneArity (nodesOf (terms n kind symbol arity child))
-
-abbrev pub FitsBefore : (kind symbol arity : List ℕ) (u : ℕ) → Bool → Type 0
-FitsBefore kind symbol arity u r =
-    (child : List ℕ) → r ≡ nodeFits (nodeAt (terms u kind symbol arity child) u) (nodesOf (terms u kind symbol arity child))
 
 -- the rules of m equations beside n nodes, but for their names: the ends of each are known, unused places are zero
 pub record EndRules (n m : ℕ) (name left right : List ℕ) : Type 0 where

@@ -6,10 +6,9 @@ ghost use lib.ListN.{length, getD};
 ghost use Rattle.graph.specs.Limits.{nodeLimit, childLimit, equationLimit};
 ghost use Rattle.store.specs.Views.{terms, equations};
 ghost use Rattle.store.specs.Shape.{TermsShape, EquationsShape, Shape};
-ghost use Rattle.store_shape.specs.Rules.{EachBelow, ZeroFrom, Distinct, Head, ChildRule, NodeRule, ArityRule, FitsBefore, EndRules, Sizes, EndSizes};
+ghost use Rattle.store_shape.specs.Rules.{EachBelow, ZeroFrom, Distinct, Head, ChildRule, NodeRule, EndRules, Sizes, EndSizes};
 ghost use Rattle.base.specs.Tells.{Tells, Each};
 ghost use Rattle.store_shape.specs.Bits.{BitNoted, Marks};
-ghost use Rattle.store_shape.specs.SymbolHeads.{SymbolHeads};
 
 // The loops have no way out in the middle, so that the compiler can take many elements at a time.
 
@@ -118,49 +117,6 @@ fn nodes_ok<'a>(
     ok
 }
 
-// Whether node u fits those before it, as declare would ask; these fit one another. `head` has a functor node for each remainder that a
-// symbol leaves. One of u's symbol decides; one of another symbol tells nothing, and each node before u is looked at.
-fn node_fits<'a>(
-    head: &mut [u8; 64],
-    kind: &'a [u8; 64],
-    symbol: &'a [u16; 64],
-    arity: &'a [u8; 64],
-    u: usize,
-) -> bool
-    requires { ⌜ (u < nodeLimit) × SymbolHeads (now kind) (now symbol) (now head) u × ArityRule (now kind) (now symbol) (now arity) u ⌝ }
-    ensures { λ r. ⌜ SymbolHeads (now (kind .entry)) (now (symbol .entry)) (now (head .exit)) (u + 1) ⌝ }
-    ensures { λ r. ⌜ FitsBefore (now (kind .entry)) (now (symbol .entry)) (now (arity .entry)) u r ⌝ }
-{
-    let symbols: &[u16] = symbol;
-    let arities: &[u8] = arity;
-    let f = symbols[u];
-    let v = store::visit(head, (f % 64) as usize, u, kind[u]);
-    if store::NO_HEAD <= v {
-        return true;
-    }
-    let w = base::wide(v);
-    if symbols[w] == f {
-        return arities[w] == arities[u];
-    }
-    store::arity_fits(kind, symbol, arity, u, f, arities[u])
-}
-
-// Whether, of the first n nodes, functor nodes of one symbol have equally many children.
-fn one_arity<'a>(kind: &'a [u8; 64], symbol: &'a [u16; 64], arity: &'a [u8; 64], n: usize) -> bool
-    requires { ⌜ n ≤ nodeLimit ⌝ }
-    ensures { λ r. ⌜ Tells (ArityRule (now (kind .entry)) (now (symbol .entry)) (now (arity .entry)) n) r ⌝ }
-{
-    let mut head = [store::NO_HEAD; 64];
-    let mut u = 0;
-    while u < n {
-        if !node_fits(&mut head, kind, symbol, arity, u) {
-            return false;
-        }
-        u += 1;
-    }
-    true
-}
-
 // Whether the arrays of nodes, of which the first n places are in use, are well-shaped.
 pub fn terms_shaped<'a>(
     n: usize,
@@ -180,7 +136,7 @@ pub fn terms_shaped<'a>(
     }
     let used = nodes_ok(k, f, a, c, n);
     let unused = zero_from(k, n) & zero_wide_from(f, n) & zero_from(a, n) & zero_from(c, 4 * n);
-    used & unused & one_arity(kind, symbol, arity, n)
+    used & unused & store_arity::one_arity(kind, symbol, arity, n)
 }
 
 // ---- equations

@@ -186,7 +186,7 @@ impl Workspace {
             return self.refuse(4);
         }
         let k = children.len() as u8;
-        if store::arity_fits(
+        if store_arity::arity_fits(
             &self.terms.kind,
             &self.terms.symbol,
             &self.terms.arity,

@@ -26,9 +26,9 @@ use Rattle.store.specs.Views.{terms, childrenAt, nodeAt, nodesOf}
 use Rattle.store.specs.Heads.{noHead, Meets, variable, first, further}
 use Rattle.store.specs.declared.Terms.{Terms}
 use Rattle.store.proofs.ViewLaws.{node-found, node-known, functor-found, functor-known, children-length}
-use Rattle.store.proofs.FitLaws.{nodes-more}
-use Rattle.store_shape.specs.Rules.{ArityRule, FitsBefore}
-use Rattle.store_shape.specs.SymbolHeads.{SymbolHeads}
+use Rattle.store_arity.proofs.FitLaws.{nodes-more}
+use Rattle.store_arity.specs.Rule.{ArityRule, FitsBefore}
+use Rattle.store_arity.specs.SymbolHeads.{SymbolHeads}
 
 -- ---- the rule
 

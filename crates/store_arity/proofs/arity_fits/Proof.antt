@@ -1,14 +1,14 @@
--- `store::arity_fits` meets its contract: node by node.
+-- `store_arity::arity_fits` meets its contract: node by node.
 use mathlib.Core.Path.{_≡_}
 use mathlib.Core.List.{List}
 use Prim.Native.Nat.{ℕ, _-_, _≤_}
 use Rattle.graph.specs.Book.{arityFits}
 use Rattle.store.specs.Views.{terms, nodesOf}
-use Rattle.store.proofs.FitLaws.{fits-none, fits-more}
+use Rattle.store_arity.proofs.FitLaws.{fits-none, fits-more}
 use native.Mathlib.Omega.{arith}
 use borrow.Author.Needs.{needs}
-use Rattle.store.proofs.arity_fits.Statement.{statement}
-use Rattle.store.proofs.arity_fits.Tie as tie
+use Rattle.store_arity.proofs.arity_fits.Statement.{statement}
+use Rattle.store_arity.proofs.arity_fits.Tie as tie
 
 abbrev Inv-loop : tie.InvT-loop
 Inv-loop kind symbol arity n f k a b c ok₀ u₀ ok u = (u ≤ n) × ((child : List ℕ) → ok ≡ arityFits f k (nodesOf (terms u kind symbol arity child)))

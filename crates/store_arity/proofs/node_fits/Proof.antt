@@ -1,9 +1,9 @@
--- `store_shape::node_fits` meets its contract: by the head that the node meets.
+-- `store_arity::node_fits` meets its contract: by the head that the node meets.
 use mathlib.Core.Path.{refl}
-use Rattle.store_shape.proofs.HeadLaws.{heads-more, fits-alone, fits-head, fits-all}
+use Rattle.store_arity.proofs.HeadLaws.{heads-more, fits-alone, fits-head, fits-all}
 use borrow.Author.Needs.{needs}
-use Rattle.store_shape.proofs.node_fits.Statement.{statement}
-use Rattle.store_shape.proofs.node_fits.Tie as tie
+use Rattle.store_arity.proofs.node_fits.Statement.{statement}
+use Rattle.store_arity.proofs.node_fits.Tie as tie
 
 visit-requires : tie.Need-visit-requires
 visit-requires c κs = (c .before .before .before .before .before .pre .1 .size, search needs, search needs)

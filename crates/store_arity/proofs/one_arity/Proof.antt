@@ -1,14 +1,14 @@
--- `store_shape::one_arity` meets its contract: the first u fit one another.
+-- `store_arity::one_arity` meets its contract: the first u fit one another.
 use Prim.Native.Nat.{_-_, _≤_}
 use borrow.Author.Tests.{not-true, not-false}
 use Rattle.base.proofs.TellLaws.{tells-yes, tells-at}
-use Rattle.store_shape.specs.Rules.{ArityRule}
-use Rattle.store_shape.specs.SymbolHeads.{SymbolHeads}
-use Rattle.store_shape.proofs.HeadLaws.{rule-none, rule-more, rule-not, heads-none}
+use Rattle.store_arity.specs.Rule.{ArityRule}
+use Rattle.store_arity.specs.SymbolHeads.{SymbolHeads}
+use Rattle.store_arity.proofs.HeadLaws.{rule-none, rule-more, rule-not, heads-none}
 use native.Mathlib.Omega.{arith}
 use borrow.Author.Needs.{needs}
-use Rattle.store_shape.proofs.one_arity.Statement.{statement}
-use Rattle.store_shape.proofs.one_arity.Tie as tie
+use Rattle.store_arity.proofs.one_arity.Statement.{statement}
+use Rattle.store_arity.proofs.one_arity.Tie as tie
 
 abbrev Inv-loop : tie.InvT-loop
 Inv-loop kind symbol arity n head₀ u₀ head u = (u ≤ n) × SymbolHeads kind symbol head u × ArityRule kind symbol arity u
