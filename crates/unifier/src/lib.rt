@@ -186,15 +186,8 @@ impl Workspace {
             return self.refuse(4);
         }
         let k = children.len() as u8;
-        if store_arity::arity_fits(
-            &self.terms.kind,
-            &self.terms.symbol,
-            &self.terms.arity,
-            count,
-            symbol,
-            k,
-        ) {
-            let t = self.terms;
+        let t = self.terms;
+        if store_arity::arity_fits(&t.kind, &t.symbol, &t.arity, count, symbol, k) {
             let more = t.put_functor(symbol, children);
             self.terms = more;
             return Outcome {
