@@ -21,6 +21,11 @@ module _ {P : Type 0} where
   pub tells-same : {Q : Type 0} {r : Bool} → (P → Q) → (Q → P) → Tells P r → Tells Q r
   tells-same f g t = record { holds = λ e. f (t .holds e); fails = λ e q. t .fails e (g q) }
 
+-- what is so, is told
+pub tells-true : {P : Type 0} {r : Bool} → Tells P r → P → r ≡ true
+tells-true {r = true} t p = refl
+tells-true {r = false} t p = absurd (t .fails refl p)
+
 -- the same fact at an equal number
 pub tells-at : (P : ℕ → Type 0) {k n : ℕ} {r : Bool} → Tells (P k) r → k ≡ n → Tells (P n) r
 tells-at P t e = rw (← e) t

@@ -1,5 +1,5 @@
 -- One number of children for each symbol (document 02 (c)).
---   fits-at, at-fits      the test passes exactly where each functor node of the symbol has that number of children
+--   AllFit, fits-exact, fits-at, at-fits   the test passes exactly where each functor node of the symbol has that number of children
 --   Misfit, misfit        where it fails, one of them has another number
 --   eighteen-just, eighteen-so, variable-fits   a declaration past refusals 2, 3 and 4 is refused with 18 exactly then
 --   fits-by-one           of nodes that keep the rule, any one of the symbol decides it
@@ -16,36 +16,53 @@ use Prim.Native.Nat.{ℕ, zero, suc, _≤_, _<_}
 use native.Mathlib.Omega.{arith}
 use lib.ListN.{length, getElem?}
 use lib.Dec.{eqb, ltb, leb}
-use borrow.Author.Tests.{eqb-true, eqb-false, eq-eqb, lt-leb, le-ltb}
+use borrow.Author.Tests.{eqb-true, eqb-false, lt-leb, le-ltb}
 use Rattle.graph.specs.Limits.{nodeLimit, childLimit}
 use Rattle.graph.specs.State.{Node, variable, functor, State, EqualLabels, OneArity}
 use Rattle.graph.specs.Book.{Call, declare, equate, withdraw, clear, Transition, allBelow, childrenOf, arityFits, nodeFits, Late, Else, Refusal, accepted, Runs}
 use Rattle.base.proofs.AbsurdLaws.{zero-is-one, true-is-false}
-use Rattle.base.proofs.BoolLaws.{and-left, and-right, and-both, then-true, untrue-false}
+use Rattle.base.proofs.BoolLaws.{untrue-false}
+use Rattle.base.specs.Tells.{Tells}
+use Rattle.base.proofs.TellLaws.{tells-yes, tells-not, tells-same, tells-both, tells-true}
 use Rattle.base.proofs.ListLaws.{found-append, found-last, found-snoc}
 use Rattle.graph.proofs.AcceptLaws.{arity-differs, declare-accepted, runs-keep}
 
 -- ---- the test
 
 module _ (f k : ℕ) where
-  pub fits-at : (ns : List Node) (v : ℕ) (ds : List ℕ) → arityFits f k ns ≡ true → getElem? ns v ≡ some (functor f ds) → length ds ≡ k
-  fits-at [] v ds a h = zero-is-one cc
-  fits-at (variable ∷ ns) zero ds a h = zero-is-one cc
-  fits-at (variable ∷ ns) (suc v) ds a h = fits-at ns v ds a h
-  fits-at (functor g es ∷ ns) zero ds a h =
+  -- each functor node of symbol f has k children
+  abbrev pub AllFit : List Node → Type 0
+  AllFit ns = (v : ℕ) (ds : List ℕ) → getElem? ns v ≡ some (functor f ds) → length ds ≡ k
+
+  own-fits : (g : ℕ) (es : List ℕ) → Tells (g ≡ f → length es ≡ k) (not (eqb g f) || eqb (length es) k)
+  own-fits g es = go (eqb g f) (eqb (length es) k) refl refl
+    where
+      go : (b c : Bool) → eqb g f ≡ b → eqb (length es) k ≡ c → Tells (g ≡ f → length es ≡ k) (not b || c)
+      go true true p q = tells-yes (λ e. eqb-true (length es) k q)
+      go true false p q = tells-not (λ h. eqb-false (length es) k q (h (eqb-true g f p)))
+      go false c p q = tells-yes (λ e. absurd (eqb-false g f p e))
+
+  after-variable : (ns : List Node) → AllFit ns → AllFit (variable ∷ ns)
+  after-variable ns A zero ds h = zero-is-one cc
+  after-variable ns A (suc v) ds h = A v ds h
+
+  after-functor : (g : ℕ) (es : List ℕ) (ns : List Node) → (g ≡ f → length es ≡ k) × AllFit ns → AllFit (functor g es ∷ ns)
+  after-functor g es ns A zero ds h =
       let q : g ≡ f = cc in
       let e : ds ≡ es = cc in
-      ap length e ∙ eqb-true (length es) k (then-true (eqb g f) (eqb (length es) k) (and-left (not (eqb g f) || eqb (length es) k) (arityFits f k ns) a) (eq-eqb g f q))
-  fits-at (functor g es ∷ ns) (suc v) ds a h = fits-at ns v ds (and-right (not (eqb g f) || eqb (length es) k) (arityFits f k ns) a) h
+      ap length e ∙ A .0 q
+  after-functor g es ns A (suc v) ds h = A .1 v ds h
 
-  pub at-fits : (ns : List Node) → ((v : ℕ) (ds : List ℕ) → getElem? ns v ≡ some (functor f ds) → length ds ≡ k) → arityFits f k ns ≡ true
-  at-fits [] h = refl
-  at-fits (variable ∷ ns) h = at-fits ns (λ v. h (suc v))
-  at-fits (functor g es ∷ ns) h = and-both _ (arityFits f k ns) (own (eqb g f) refl) (at-fits ns (λ v. h (suc v)))
-    where
-      own : (b : Bool) → eqb g f ≡ b → not b || eqb (length es) k ≡ true
-      own true e = let q : g ≡ f = eqb-true g f e in eq-eqb (length es) k (h 0 es cc)
-      own false e = refl
+  pub fits-exact : (ns : List Node) → Tells (AllFit ns) (arityFits f k ns)
+  fits-exact [] = tells-yes (λ v ds h. zero-is-one cc)
+  fits-exact (variable ∷ ns) = tells-same (after-variable ns) (λ A v. A (suc v)) (fits-exact ns)
+  fits-exact (functor g es ∷ ns) = tells-same (after-functor g es ns) (λ A. (λ q. A 0 es cc, λ v. A (suc v))) (tells-both (own-fits g es) (fits-exact ns))
+
+  pub fits-at : (ns : List Node) (v : ℕ) (ds : List ℕ) → arityFits f k ns ≡ true → getElem? ns v ≡ some (functor f ds) → length ds ≡ k
+  fits-at ns v ds a h = fits-exact ns .holds a v ds h
+
+  pub at-fits : (ns : List Node) → AllFit ns → arityFits f k ns ≡ true
+  at-fits ns A = tells-true (fits-exact ns) A
 
   -- a functor node of symbol f that doesn't have k children
   abbrev pub Misfit : List Node → Type 0

@@ -9,10 +9,11 @@ use mathlib.Core.Option.{Option, none, some}
 use Prim.Native.Nat.{ℕ, zero, suc}
 use lib.ListN.{getElem?}
 use lib.Dec.{eqb}
-use borrow.Author.Tests.{eqb-true, eq-eqb}
 use Rattle.graph.specs.State.{Node, variable, functor, Equation, EqualLabels}
 use Rattle.graph.specs.Lines.{try, need, named, Functor, functorOf, functorAt, equalLabels}
+use Rattle.base.specs.Tells.{Tells}
 use Rattle.base.proofs.AbsurdLaws.{zero-is-one}
+use Rattle.base.proofs.TellLaws.{tells-eq, tells-true}
 
 -- P of what is there, if anything is
 abbrev pub IfSome : {A : Type 0} → (A → Type 0) → Option A → Type 0
@@ -67,8 +68,11 @@ functor-at ns u k h = go (getElem? ns u) h
 
 -- the label test says what equal labels are
 module _ (k m : Functor) where
+  labels-exact : Tells (EqualLabels (k .symbol) (m .symbol)) (equalLabels k m)
+  labels-exact = tells-eq (k .symbol) (m .symbol)
+
   pub labels-equal : equalLabels k m ≡ true → EqualLabels (k .symbol) (m .symbol)
-  labels-equal = eqb-true (k .symbol) (m .symbol)
+  labels-equal = labels-exact .holds
 
   pub equal-labels : EqualLabels (k .symbol) (m .symbol) → equalLabels k m ≡ true
-  equal-labels = eq-eqb (k .symbol) (m .symbol)
+  equal-labels = tells-true labels-exact
