@@ -1,5 +1,7 @@
 // The engine's parts for C and Rust, as a static library (`rt staticlib bench_ffi`): numbers, lent arrays and slices only. Each function
 // hands on to the crate that does the work, with that crate's promise. Nobody proves of a C caller what a `requires` asks: it owes it.
+#![tactic(auto)]
+
 ghost use Rattle.std.specs.Prelude.{◌≡◌, length};
 ghost use Rattle.graph.specs.State.{State};
 ghost use Rattle.solve_classes.specs.Table.{Table};

@@ -1,4 +1,6 @@
 // The program `eqtrace`.
+#![tactic(auto)]
+
 fn main() {
     eqtrace_console::run();
 }

@@ -1,4 +1,6 @@
 // A reply's bytes, put into a lent buffer.
+#![tactic(auto)]
+
 ghost use Rattle.std.specs.Prelude.{◌≡◌, [], ◌∷◌, ◌++◌, ◌+◌, ◌-◌, ◌*◌, ◌%◌, ◌≤◌, ◌<◌, length, get_or, take, drop};
 ghost use Rattle.eqtrace_answers.specs.Text.{decimal, spaced};
 ghost use Rattle.eqtrace_answers.specs.Puts.{Puts, DigitsShow, meant, Says, Small};

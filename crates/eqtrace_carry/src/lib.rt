@@ -1,6 +1,8 @@
 // One order carried out on a workspace. The caller lends a proof buffer of 65,536 bytes, room for 8,192 names, as many as a proof has lines,
 // and 49,184 bytes for an answer: a word of at most 7 letters, two numbers or one and the names, each of at most 6 bytes with its space, and
 // the line break.
+#![tactic(auto)]
+
 ghost use Rattle.std.specs.Prelude.{◌≡◌, List, ℕ, ◌*◌, ◌≤◌, ◌<◌, length, take};
 ghost use Rattle.std.proofs.Math.Option.{none, some};
 ghost use Rattle.graph.specs.Limits.{line_limit, buffer_bytes};

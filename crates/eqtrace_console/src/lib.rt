@@ -1,4 +1,6 @@
 // Orders from standard input, one a line, and the answer to each on standard output.
+#![tactic(auto)]
+
 ghost use Rattle.std.specs.Prelude.{◌≡◌};
 ghost use Rattle.eqtrace_session.specs.Transcript.{Finished};
 

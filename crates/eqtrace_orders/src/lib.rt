@@ -1,4 +1,6 @@
 // An order's bytes to a command.
+#![tactic(auto)]
+
 ghost use Rattle.std.specs.Prelude.{◌≡◌, true, cond, ltb, ◌-◌, ◌≤◌, length, drop};
 ghost use Rattle.eqtrace_orders.specs.Grammar.{is_digit};
 ghost use Rattle.eqtrace_orders.specs.Scan.{Scans, in_word, IsNumber, KeepsOne, Collects};

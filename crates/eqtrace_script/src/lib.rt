@@ -1,4 +1,6 @@
 // An input as a script: where a line ends, the line `K`, which answers refuse, and where to go on.
+#![tactic(auto)]
+
 ghost use Rattle.std.specs.Prelude.{◌≡◌, [], ◌≤◌, length};
 ghost use Rattle.eqtrace_orders.specs.Input.{EndsAt};
 ghost use Rattle.eqtrace_answers.specs.Puts.{meant};

@@ -1,4 +1,6 @@
 // An input's orders carried out, one after the other: `begin`, then `step` until nothing is left. The buffers are those of `eqtrace_carry`.
+#![tactic(auto)]
+
 ghost use Rattle.std.specs.Prelude.{◌≡◌, ◌≤◌, ◌<◌, length};
 ghost use Rattle.graph.specs.Limits.{line_limit, buffer_bytes};
 ghost use Rattle.eqtrace_answers.specs.Puts.{answer_room};

@@ -1,4 +1,6 @@
 // Definitions and theory of column unification: see specs/ and proofs/. The limits of specs/Limits, for code.
+#![tactic(auto)]
+
 ghost use Rattle.std.specs.Prelude.{◌≡◌};
 
 pub const NODES: usize = 64; // of a workspace

@@ -1,4 +1,6 @@
 // The checker of a proof's bytes.
+#![tactic(auto)]
+
 ghost use Rattle.std.specs.Prelude.{◌&&◌, List, [], ◌≡◌, ◌≤◌, eqb, length};
 ghost use Rattle.graph.specs.Limits.{node_limit, buffer_bytes};
 ghost use Rattle.graph.specs.State.{Node, with_offer};

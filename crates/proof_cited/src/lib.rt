@@ -1,4 +1,6 @@
 // The names that the last line of a proof rests on, by marking backwards.
+#![tactic(auto)]
+
 ghost use Rattle.std.specs.Prelude.{◌≡◌, ◌+◌, ◌*◌, ◌≤◌, ◌<◌, length};
 ghost use Rattle.graph.specs.Limits.{line_limit, buffer_bytes};
 ghost use Rattle.proof_lines.specs.Codec.{line_at, lines_of};

@@ -1,4 +1,6 @@
 // The rules that cite lines, and what one line claims, over lent arrays of nodes, equations and earlier claims.
+#![tactic(auto)]
+
 ghost use Rattle.std.specs.Prelude.{◌≡◌, ℕ, ◌≤◌, ◌<◌, get_or};
 ghost use Rattle.graph.specs.Limits.{node_limit, child_limit, line_limit};
 ghost use Rattle.graph.specs.State.{with_offer};

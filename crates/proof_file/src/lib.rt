@@ -1,4 +1,6 @@
 // Proof files: written into a lent buffer, read as a part of the caller's bytes.
+#![tactic(auto)]
+
 ghost use Rattle.std.specs.Prelude.{◌≡◌, ◌+◌, ◌≤◌, ◌<◌, ◌++◌, length, drop};
 ghost use Rattle.std.proofs.Math.Seq.{paste};
 ghost use Rattle.proof_file.specs.File.{is_marked, is_counted, file_refusal, lines_in, header_of};

@@ -1,4 +1,6 @@
 // A proof line of eight bytes: read, written, and held against the table of rules.
+#![tactic(auto)]
+
 ghost use Rattle.std.specs.Prelude.{◌≡◌, ◌+◌, ◌*◌, ◌≤◌, ◌<◌, length};
 ghost use Rattle.graph.specs.Limits.{line_limit};
 ghost use Rattle.graph.specs.Lines.{uses_of, used_or_zero, tidy as tidyLine};

@@ -1,6 +1,8 @@
 // The reader of a proof: it holds the lent lines and the number of the line that it has come to. `step_at`, which takes a plain slice
 // and a number, does the work and is covered; `step`, over the struct, is proved by hand, and so is `read_line`, which makes a reader
 // of plain parameters, so that its callers are covered.
+#![tactic(auto)]
+
 ghost use Rattle.std.specs.Prelude.{◌≡◌, ◌/◌, length};
 ghost use Rattle.proof_reader.specs.Read.{step_at, stepped_to};
 

@@ -1,4 +1,6 @@
 // The rules that read nodes and equations, over lent arrays.
+#![tactic(auto)]
+
 ghost use Rattle.std.specs.Prelude.{true, [], ◌≡◌, ℕ, ◌+◌, ◌*◌, ◌≤◌, ◌<◌, ltb, get_or};
 ghost use Rattle.std.proofs.Math.Option.{some};
 ghost use Rattle.base.specs.Tab.{tab};

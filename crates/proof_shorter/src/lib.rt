@@ -1,5 +1,7 @@
 // The shorter of two proofs. A workspace is Copy, so the caller keeps its own; the calls here hand back a part or a refusal alone, since a
 // struct of a lent part beside a workspace would hold a reference.
+#![tactic(auto)]
+
 ghost use Rattle.std.specs.Prelude.{◌≡◌};
 ghost use Rattle.proof_rules.specs.Rules.{offer_of};
 ghost use Rattle.proof_check.specs.Answers.{goal_of};

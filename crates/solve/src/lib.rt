@@ -1,4 +1,6 @@
 // The verdict on a set of equations: a solution, a clash or a cycle, with its reason, the class table and the trace of its merges.
+#![tactic(auto)]
+
 ghost use Rattle.std.specs.Prelude.{◌≡◌, List, ℕ, length};
 ghost use Rattle.graph.specs.State.{Equation, State, offered};
 ghost use Rattle.store.specs.Views.{terms};

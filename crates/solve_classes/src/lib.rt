@@ -1,4 +1,6 @@
 // Class tables of 64 nodes, merges of classes, and the members of a class.
+#![tactic(auto)]
+
 ghost use Rattle.std.specs.Prelude.{◌≡◌, ℕ, ◌<◌};
 ghost use Rattle.solve_classes.specs.Table.{class, Fresh, Relabelled, Table, Merged};
 ghost use Rattle.solve_classes.specs.Members.{in_class, functor_kind, set_of, size_of, class_number};

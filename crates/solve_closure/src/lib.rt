@@ -1,4 +1,6 @@
 // The closure of equations on nodes: rounds of visits to a clash or a closed table, with the trace of its merges.
+#![tactic(auto)]
+
 ghost use Rattle.std.specs.Prelude.{◌≡◌, length, ◌<◌};
 ghost use Rattle.graph.specs.State.{Equation, State, offered};
 ghost use Rattle.store.specs.Views.{terms};

@@ -1,4 +1,6 @@
 // Heights of the classes of a table, by peeling: a class goes once the children of its functor nodes lie in classes that went.
+#![tactic(auto)]
+
 ghost use Rattle.std.specs.Prelude.{◌≡◌, ◌+◌, ◌≤◌, ◌<◌, length, replicate};
 ghost use Rattle.base.specs.Tells.{Tells};
 ghost use Rattle.graph.specs.Limits.{node_limit};

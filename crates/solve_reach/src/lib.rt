@@ -1,4 +1,6 @@
 // The classes strictly below a node, and a node on a cycle.
+#![tactic(auto)]
+
 ghost use Rattle.std.specs.Prelude.{ℕ, ◌+◌, ◌*◌, ◌≤◌, ◌<◌, get_or, replicate, ◌≡◌};
 ghost use Rattle.graph.specs.State.{State};
 ghost use Rattle.graph.specs.Closure.{Cycle};

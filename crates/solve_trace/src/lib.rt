@@ -1,4 +1,6 @@
 // Merges of a class table with a trace of their reasons: one join, all equations, the children of two nodes.
+#![tactic(auto)]
+
 ghost use Rattle.std.specs.Prelude.{◌≡◌, ℕ, ◌+◌, ◌*◌, ◌≤◌, ◌<◌, get_or};
 ghost use Rattle.base.specs.Tells.{Tells};
 ghost use Rattle.graph.specs.Limits.{child_limit, equation_limit};

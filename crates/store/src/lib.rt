@@ -1,4 +1,6 @@
 // The fixed arrays that a workspace is made of: nodes and held equations; and a table of heads, for groups of nodes.
+#![tactic(auto)]
+
 ghost use Rattle.std.specs.Prelude.{◌≡◌, ◌+◌, ◌≤◌, ◌<◌, true, length, set};
 ghost use Rattle.std.proofs.Math.Seq.{paste};
 ghost use Rattle.graph.specs.Limits.{node_limit, equation_limit};

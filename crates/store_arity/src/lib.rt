@@ -1,4 +1,6 @@
 // One number of children for each symbol: whether a declaration fits the nodes that are there, and whether all of these fit one another.
+#![tactic(auto)]
+
 ghost use Rattle.std.specs.Prelude.{◌≡◌, List, ℕ, ◌+◌, ◌≤◌, ◌<◌};
 ghost use Rattle.base.specs.Tells.{Tells};
 ghost use Rattle.graph.specs.Limits.{node_limit};

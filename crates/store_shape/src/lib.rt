@@ -1,4 +1,6 @@
 // The test that arrays of nodes and equations, with any values whatever in them, are well-shaped.
+#![tactic(auto)]
+
 ghost use Rattle.std.specs.Prelude.{◌≡◌, true, false, ◌+◌, ◌*◌, ◌≤◌, ◌<◌, length, get_or};
 ghost use Rattle.graph.specs.Limits.{node_limit, child_limit, equation_limit};
 ghost use Rattle.store.specs.Views.{terms, equations};

@@ -1,4 +1,6 @@
 // An input of 65,537 bytes, `K` among them.
+#![tactic(auto)]
+
 fn main() {
     eqtrace_console::run();
 }

@@ -1,4 +1,6 @@
 // The README's worked session: the files of examples/.
+#![tactic(auto)]
+
 fn main() {
     eqtrace_console::run();
 }

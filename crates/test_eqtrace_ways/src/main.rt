@@ -1,4 +1,6 @@
 // The program's two ways: many inputs in one, each ended by `=`. After what is printed for one comes a line `=`.
+#![tactic(auto)]
+
 ghost use Rattle.std.specs.Prelude.{◌≤◌, length};
 
 use libc::{STDIN_FILENO, STDOUT_FILENO};

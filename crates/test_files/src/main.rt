@@ -1,4 +1,6 @@
 // Proof files, the line reader and the shorter of two proofs, on real proofs and on damaged ones.
+#![tactic(auto)]
+
 mod choosing; // the shorter of two
 mod damage; // a file with each bit damaged in turn
 mod files; // the limits of writing and reading

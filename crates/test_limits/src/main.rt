@@ -1,4 +1,6 @@
 // The unmarked examples of document 01, at its limits, class numbers, numbers of children, and damaged workspaces.
+#![tactic(auto)]
+
 mod arities; // refusal 18
 mod classes; // which node a class shows
 mod damaged; // workspaces with one bad field

@@ -1,4 +1,6 @@
 // The library held against another solver and another checker, over random graphs and random lists of calls from a fixed seed.
+#![tactic(auto)]
+
 mod calls; // the calls that change the workspace
 mod counts; // what is counted
 mod picks; // what is random

@@ -1,4 +1,6 @@
 // What the test programs share: text, counts, random numbers, buffers, the library's replies as numbers, and workspaces.
+#![tactic(auto)]
+
 pub mod bytes; // buffers
 pub mod replies; // replies as numbers
 pub mod workspaces; // made, and held against the book

@@ -1,4 +1,6 @@
 // The workspace and its calls. No call asks anything of its caller: whatever is handed in gets a reply.
+#![tactic(auto)]
+
 ghost use Rattle.std.specs.Prelude.{◌≡◌, length};
 ghost use Rattle.graph.specs.State.{variable, functor};
 ghost use Rattle.graph.specs.Book as book;

@@ -1,5 +1,7 @@
 // Whether a value is a workspace: its shape first, then its held equations are solved. Every call begins here, and goes on from
 // the class table and the trace that this leaves.
+#![tactic(auto)]
+
 ghost use Rattle.std.specs.Prelude.{◌≡◌, length};
 ghost use Rattle.store.specs.Views.{terms, equations};
 ghost use Rattle.store.specs.Shape.{Shape};

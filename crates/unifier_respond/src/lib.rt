@@ -1,5 +1,7 @@
 // How two nodes stand, and proofs of what the solver found, each in a lent buffer. Nodes and equations come whole: beside the writing of
 // a proof their copies cost little.
+#![tactic(auto)]
+
 ghost use Rattle.std.specs.Prelude.{◌≡◌, ◌≤◌, ◌<◌, length, take};
 ghost use Rattle.graph.specs.Limits.{buffer_bytes};
 ghost use Rattle.graph.specs.Closure.{Cycle};

@@ -1,5 +1,7 @@
 // Lines that end in u below v: from v back up to u, a step down at a time. For each node, `to` has the number of a line that
 // claims the node same its root; `parent`, `place`, `into` and `level` say how each class was reached from u: see `solve_reach`.
+#![tactic(auto)]
+
 ghost use Rattle.std.specs.Prelude.{◌≡◌, ℕ, ◌+◌, ◌-◌, ◌≤◌, ◌<◌, length, get_or};
 ghost use Rattle.graph.specs.Limits.{node_limit, line_limit, buffer_bytes};
 ghost use Rattle.solve_classes.specs.Table.{Table};

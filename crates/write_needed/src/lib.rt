@@ -1,5 +1,7 @@
 // The entries of a trace that a goal needs. An entry is an equation's place, or two nodes of one class and a place: see
 // `solve_trace`.
+#![tactic(auto)]
+
 ghost use Rattle.std.specs.Prelude.{◌≡◌, true, ℕ, ◌-◌, ◌≤◌, ◌<◌, length, get_or};
 ghost use Rattle.graph.specs.Limits.{node_limit, child_limit, equation_limit};
 ghost use Rattle.solve_trace.specs.Packing.{place_base, place_of};

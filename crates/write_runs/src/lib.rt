@@ -1,5 +1,7 @@
 // Runs of proof lines that extend what the lines before them claim, by symmetry and transitivity. For each node, `to` has the
 // number of a line that claims the node same its root, the class table's entry for it.
+#![tactic(auto)]
+
 ghost use Rattle.std.specs.Prelude.{◌≡◌, ◌+◌, ◌≤◌, ◌<◌, length};
 ghost use Rattle.graph.specs.Limits.{node_limit, line_limit, buffer_bytes};
 ghost use Rattle.write_runs.specs.Runs.{Linked, Bridged, BridgedBack, Started, Absorbed, Rewired};

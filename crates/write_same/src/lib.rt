@@ -1,6 +1,8 @@
 // A trace of merges replayed as proof lines, and the lines for two nodes of one class. For each node, `to` has the number of
 // a line that claims the node same its root. An entry is an equation's place, or two nodes of one class and a place:
 // see `solve_trace`.
+#![tactic(auto)]
+
 ghost use Rattle.std.specs.Prelude.{◌≡◌, ℕ, ◌+◌, ◌*◌, ◌≤◌, ◌<◌, length, get_or};
 ghost use Rattle.graph.specs.Limits.{node_limit, equation_limit, line_limit, buffer_bytes};
 ghost use Rattle.solve_trace.specs.Packing.{place_base};
