@@ -123,9 +123,12 @@ module _ (kind symbol : List ℕ) where
       }
 
     pub heads_more : {next : List ℕ} {v : ℕ} (c : ℕ) → c ≡ get_or symbol u 0 % 64 → Meets head c u (get_or kind u 0) next v → SymbolHeads kind symbol next (u + 1)
-    heads_more c e (variable d) = kept (λ k. absurd (d k))
-    heads_more c e (first k l) = rw e (became k)
-    heads_more c e (further k l) = kept (λ q. rw (← e) l)
+    heads_more c e M = go c e M
+      where
+        go : (c : ℕ) → c ≡ get_or symbol u 0 % 64 → {next : List ℕ} {v : ℕ} → Meets head c u (get_or kind u 0) next v → SymbolHeads kind symbol next (u + 1)
+        go c e (variable d) = kept (λ k. absurd (d k))
+        go c e (first k l) = rw e (became k)
+        go c e (further k l) = kept (λ q. rw (← e) l)
 
     -- ---- node u beside those before it, by the head that it meets
 
