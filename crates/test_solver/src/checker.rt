@@ -23,7 +23,7 @@ pub const PASSED: usize = 47;
 pub const BROKEN_AT: usize = 16384;
 
 // What `check` is asked: an equation offered, where `on`, and a goal, which may be of two nodes.
-#[derive(Drop)]
+#[derive(Clone, Copy)]
 pub struct Question {
     pub on: bool,
     pub name: usize,
@@ -59,7 +59,7 @@ pub fn asking(x: Question, goal: usize, u: usize, v: usize) -> Question {
     }
 }
 
-#[derive(Drop)]
+#[derive(Clone, Copy)]
 struct Line {
     rule: usize,
     place: usize,
