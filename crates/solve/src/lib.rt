@@ -38,11 +38,9 @@ fn judge<'a>(
     arity: &'a [u8; 64],
     child: &'a [u8; 256],
 ) -> SolveResult
-    ghost g: { Terms }
-    requires child_value { terms n kind.now symbol.now arity.now child.now ≡ g }
-    requires judging { Judging g o.table o.clash o.left o.right }
-    ensures left_over { LeftOver g result.table result.heights.height result.heights.left result.verdict }
-    ensures decided { (s : State) (tr : List ℕ) → Nodes g s
+    requires judging { let g : Terms = terms n kind.now symbol.now arity.now child.now in Judging g o.table o.clash o.left o.right }
+    ensures left_over { let g : Terms = terms n kind.now symbol.now arity.now child.now in LeftOver g result.table result.heights.height result.heights.left result.verdict }
+    ensures decided { let g : Terms = terms n kind.now symbol.now arity.now child.now in (s : State) (tr : List ℕ) → Nodes g s
         → Settled g s o.table tr o.steps o.clash o.left o.right
         → Decided s result.table result.heights.height tr result.steps result.verdict }
 {
@@ -90,11 +88,9 @@ pub fn decide<'a>(
     left: &'a [u8; 256],
     right: &'a [u8; 256],
 ) -> SolveResult
-    ghost g: { Terms }
-    requires child_value { terms n kind.now symbol.now arity.now child.now ≡ g }
-    requires given { Given g m left.now right.now }
+    requires given { let g : Terms = terms n kind.now symbol.now arity.now child.now in Given g m left.now right.now }
     requires trace_len { length trace.old ≡ 64 }
-    ensures { (s : State)
+    ensures { let g : Terms = terms n kind.now symbol.now arity.now child.now in (s : State)
         → ArraysHold g m left.now right.now s
         → Decided s result.table result.heights.height trace.new result.steps result.verdict }
 {
@@ -116,11 +112,9 @@ pub fn extend<'a>(
     x: u8,
     y: u8,
 ) -> SolveResult
-    ghost g: { Terms }
-    requires child_value { terms n kind.now symbol.now arity.now child.now ≡ g }
-    requires offer_fits { OfferFits g m x y table trace.old steps }
-    ensures left_over { LeftOver g result.table result.heights.height result.heights.left result.verdict }
-    ensures decided { (s : State) (e : Equation)
+    requires offer_fits { let g : Terms = terms n kind.now symbol.now arity.now child.now in OfferFits g m x y table trace.old steps }
+    ensures left_over { let g : Terms = terms n kind.now symbol.now arity.now child.now in LeftOver g result.table result.heights.height result.heights.left result.verdict }
+    ensures decided { let g : Terms = terms n kind.now symbol.now arity.now child.now in (s : State) (e : Equation)
         → Before g s e m x y table trace.old steps
         → Decided (offered s e) result.table result.heights.height trace.new result.steps result.verdict }
 {

@@ -33,10 +33,8 @@ fn pair<'a>(
     arity: &'a [u8; 64],
     child: &'a [u8; 256],
 ) -> Settling
-    ghost g: { Terms }
-    requires child_value { terms n kind.now symbol.now arity.now child.now ≡ g }
-    requires meeting { Meeting g u v table trace.old steps }
-    ensures pair { Pair g u v
+    requires meeting { let g : Terms = terms n kind.now symbol.now arity.now child.now in Meeting g u v table trace.old steps }
+    ensures pair { let g : Terms = terms n kind.now symbol.now arity.now child.now in Pair g u v
         table trace.old steps result.table trace.new result.steps result.clash }
     ensures left_value { (result.left ≡ u) × (result.right ≡ v) }
 {
@@ -71,11 +69,9 @@ fn round<'a>(
     arity: &'a [u8; 64],
     child: &'a [u8; 256],
 ) -> Settling
-    ghost g: { Terms }
-    requires child_value { terms n kind.now symbol.now arity.now child.now ≡ g }
     requires trace_fits { TraceFits table trace.old steps }
-    requires formed { Formed g }
-    ensures { Round g
+    requires formed { let g : Terms = terms n kind.now symbol.now arity.now child.now in Formed g }
+    ensures { let g : Terms = terms n kind.now symbol.now arity.now child.now in Round g
         table trace.old steps result.table trace.new result.steps result.clash result.left result.right }
 {
     let mut head = [store::NO_HEAD; 64];
@@ -115,11 +111,9 @@ fn rounds<'a>(
     arity: &'a [u8; 64],
     child: &'a [u8; 256],
 ) -> Settling
-    ghost g: { Terms }
-    requires child_value { terms n kind.now symbol.now arity.now child.now ≡ g }
     requires trace_fits { TraceFits table trace.old steps }
-    requires formed { Formed g }
-    ensures { Rounds g
+    requires formed { let g : Terms = terms n kind.now symbol.now arity.now child.now in Formed g }
+    ensures { let g : Terms = terms n kind.now symbol.now arity.now child.now in Rounds g
         table trace.old steps result.table trace.new result.steps result.clash result.left result.right }
 {
     let mut t = table;
@@ -150,13 +144,11 @@ pub fn settle<'a>(
     left: &'a [u8; 256],
     right: &'a [u8; 256],
 ) -> Settling
-    ghost g: { Terms }
-    requires child_value { terms n kind.now symbol.now arity.now child.now ≡ g }
-    requires given { Given g m left.now right.now }
+    requires given { let g : Terms = terms n kind.now symbol.now arity.now child.now in Given g m left.now right.now }
     requires trace_len { length trace.old ≡ 64 }
-    ensures rounds_ended { RoundsEnded g
+    ensures rounds_ended { let g : Terms = terms n kind.now symbol.now arity.now child.now in RoundsEnded g
         result.table trace.new result.steps result.clash result.left result.right }
-    ensures settled { (s : State)
+    ensures settled { let g : Terms = terms n kind.now symbol.now arity.now child.now in (s : State)
         → ArraysHold g m left.now right.now s
         → Settled g s
         result.table trace.new result.steps result.clash result.left result.right }
@@ -181,12 +173,10 @@ pub fn settle_offered<'a>(
     x: u8,
     y: u8,
 ) -> Settling
-    ghost g: { Terms }
-    requires child_value { terms n kind.now symbol.now arity.now child.now ≡ g }
-    requires offer_fits { OfferFits g m x y table trace.old steps }
-    ensures rounds_ended { RoundsEnded g
+    requires offer_fits { let g : Terms = terms n kind.now symbol.now arity.now child.now in OfferFits g m x y table trace.old steps }
+    ensures rounds_ended { let g : Terms = terms n kind.now symbol.now arity.now child.now in RoundsEnded g
         result.table trace.new result.steps result.clash result.left result.right }
-    ensures settled { (s : State) (e : Equation)
+    ensures settled { let g : Terms = terms n kind.now symbol.now arity.now child.now in (s : State) (e : Equation)
         → Before g s e m x y table trace.old steps
         → Settled g (offered s e)
         result.table trace.new result.steps result.clash result.left result.right }

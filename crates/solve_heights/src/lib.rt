@@ -36,13 +36,11 @@ fn stuck(
     arity: &[u8; 64],
     child: &[u8; 256],
 ) -> bool
-    ghost g: { Terms }
-    requires child_value { terms n kind.now symbol.now arity.now child.now ≡ g }
     requires table { Table table.now }
-    requires formed { Formed g }
+    requires formed { let g : Terms = terms n kind.now symbol.now arity.now child.now in Formed g }
     requires u_lt_n { u < n }
     requires height_len { length height.now ≡ 64 }
-    ensures { Tells (Stuck g table.now height.now u) result }
+    ensures { let g : Terms = terms n kind.now symbol.now arity.now child.now in Tells (Stuck g table.now height.now u) result }
 {
     if kind[u] != 1 {
         return false;
@@ -74,10 +72,8 @@ fn visit(
     arity: &[u8; 64],
     child: &[u8; 256],
 ) -> u8
-    ghost g: { Terms }
-    requires child_value { terms n kind.now symbol.now arity.now child.now ≡ g }
-    requires visiting { Visiting g table.now height.old pending.old waiting.old went u }
-    ensures { Visited g table.now
+    requires visiting { let g : Terms = terms n kind.now symbol.now arity.now child.now in Visiting g table.now height.old pending.old waiting.old went u }
+    ensures { let g : Terms = terms n kind.now symbol.now arity.now child.now in Visited g table.now
         height.old pending.old went u height.new pending.new waiting.new result }
 {
     if pending[u] == 0 {
@@ -111,12 +107,10 @@ fn pass(
     arity: &[u8; 64],
     child: &[u8; 256],
 ) -> u8
-    ghost g: { Terms }
-    requires child_value { terms n kind.now symbol.now arity.now child.now ≡ g }
     requires table { Table table.now }
-    requires formed { Formed g }
-    requires peeling { Peeling g table.now height.old pending.old waiting.old went }
-    ensures { PeelPassed g table.now
+    requires formed { let g : Terms = terms n kind.now symbol.now arity.now child.now in Formed g }
+    requires peeling { let g : Terms = terms n kind.now symbol.now arity.now child.now in Peeling g table.now height.old pending.old waiting.old went }
+    ensures { let g : Terms = terms n kind.now symbol.now arity.now child.now in PeelPassed g table.now
         down went n height.new pending.new waiting.new result }
 {
     let mut gone = went;
@@ -164,13 +158,11 @@ fn rounds(
     arity: &[u8; 64],
     child: &[u8; 256],
 ) -> u8
-    ghost g: { Terms }
-    requires child_value { terms n kind.now symbol.now arity.now child.now ≡ g }
     requires table { Table table.now }
-    requires formed { Formed g }
-    requires peeling { Peeling g table.now height.old pending.old waiting.old 0 }
-    requires total_value { total ≡ classes g table.now }
-    ensures { Peeled g table.now height.new result }
+    requires formed { let g : Terms = terms n kind.now symbol.now arity.now child.now in Formed g }
+    requires peeling { let g : Terms = terms n kind.now symbol.now arity.now child.now in Peeling g table.now height.old pending.old waiting.old 0 }
+    requires total_value { let g : Terms = terms n kind.now symbol.now arity.now child.now in total ≡ classes g table.now }
+    ensures { let g : Terms = terms n kind.now symbol.now arity.now child.now in Peeled g table.now height.new result }
 {
     let mut went: u8 = 0;
     let mut down = false;
@@ -202,11 +194,9 @@ pub fn peel(
     arity: &[u8; 64],
     child: &[u8; 256],
 ) -> Heights
-    ghost g: { Terms }
-    requires child_value { terms n kind.now symbol.now arity.now child.now ≡ g }
     requires table { Table table }
-    requires formed { Formed g }
-    ensures { Peeled g table result.height result.left }
+    requires formed { let g : Terms = terms n kind.now symbol.now arity.now child.now in Formed g }
+    ensures { let g : Terms = terms n kind.now symbol.now arity.now child.now in Peeled g table result.height result.left }
 {
     let mut height = [NO_HEIGHT; 64];
     let mut pending = [1u8; 64];

@@ -108,13 +108,11 @@ fn expand(
     arity: &[u8; 64],
     child: &[u8; 256],
 ) -> u8
-    ghost g: { Terms }
-    requires child_value { terms n kind.now symbol.now arity.now child.now ≡ g }
     requires table { Table table.now }
-    requires formed { Formed g }
+    requires formed { let g : Terms = terms n kind.now symbol.now arity.now child.now in Formed g }
     requires u_lt_n { (u < n) × (p < n) }
-    requires reaching { Reaching g table.now parent.old place.old into.old level.old u reached }
-    ensures { Expanded g table.now
+    requires reaching { let g : Terms = terms n kind.now symbol.now arity.now child.now in Reaching g table.now parent.old place.old into.old level.old u reached }
+    ensures { let g : Terms = terms n kind.now symbol.now arity.now child.now in Expanded g table.now
         level.old u reached p parent.new place.new into.new level.new result }
 {
     if idle(table, level, u, p, n, kind, symbol, arity, child) {
@@ -146,13 +144,11 @@ fn pass(
     arity: &[u8; 64],
     child: &[u8; 256],
 ) -> u8
-    ghost g: { Terms }
-    requires child_value { terms n kind.now symbol.now arity.now child.now ≡ g }
     requires table { Table table.now }
-    requires formed { Formed g }
+    requires formed { let g : Terms = terms n kind.now symbol.now arity.now child.now in Formed g }
     requires u_lt_n { u < n }
-    requires reaching { Reaching g table.now parent.old place.old into.old level.old u reached }
-    ensures { SearchPassed g table.now
+    requires reaching { let g : Terms = terms n kind.now symbol.now arity.now child.now in Reaching g table.now parent.old place.old into.old level.old u reached }
+    ensures { let g : Terms = terms n kind.now symbol.now arity.now child.now in SearchPassed g table.now
         u down reached n parent.new place.new into.new level.new result }
 {
     let mut r = reached;
@@ -181,13 +177,11 @@ fn rounds(
     arity: &[u8; 64],
     child: &[u8; 256],
 )
-    ghost g: { Terms }
-    requires child_value { terms n kind.now symbol.now arity.now child.now ≡ g }
     requires table { Table table.now }
-    requires formed { Formed g }
+    requires formed { let g : Terms = terms n kind.now symbol.now arity.now child.now in Formed g }
     requires u_lt_n { u < n }
-    requires reaching { Reaching g table.now parent.old place.old into.old level.old u 0 }
-    ensures { Reached g table.now
+    requires reaching { let g : Terms = terms n kind.now symbol.now arity.now child.now in Reaching g table.now parent.old place.old into.old level.old u 0 }
+    ensures { let g : Terms = terms n kind.now symbol.now arity.now child.now in Reached g table.now
         parent.new place.new into.new level.new u }
 {
     let mut r: u8 = 0;
@@ -215,12 +209,10 @@ pub fn reach<'a>(
     arity: &'a [u8; 64],
     child: &'a [u8; 256],
 ) -> Search
-    ghost g: { Terms }
-    requires child_value { terms n kind.now symbol.now arity.now child.now ≡ g }
     requires table { Table table }
-    requires formed { Formed g }
+    requires formed { let g : Terms = terms n kind.now symbol.now arity.now child.now in Formed g }
     requires u_lt_n { u < n }
-    ensures { Reached g table result.parent result.place result.into result.level u }
+    ensures { let g : Terms = terms n kind.now symbol.now arity.now child.now in Reached g table result.parent result.place result.into result.level u }
 {
     let mut parent = [0u8; 64];
     let mut place = [0u8; 64];
@@ -269,13 +261,11 @@ fn search_from<'a>(
     arity: &'a [u8; 64],
     child: &'a [u8; 256],
 ) -> Search
-    ghost g: { Terms }
-    requires child_value { terms n kind.now symbol.now arity.now child.now ≡ g }
     requires table { Table table }
-    requires formed { Formed g }
-    requires by_index { (left : ℕ) × Peeled g table height.now left }
+    requires formed { let g : Terms = terms n kind.now symbol.now arity.now child.now in Formed g }
+    requires by_index { let g : Terms = terms n kind.now symbol.now arity.now child.now in (left : ℕ) × Peeled g table height.now left }
     requires u_lt_n { u < n }
-    ensures { MayLeadBack g table u result.parent result.place result.into result.level }
+    ensures { let g : Terms = terms n kind.now symbol.now arity.now child.now in MayLeadBack g table u result.parent result.place result.into result.level }
 {
     if kind[u] != 1 {
         return nothing_reached();
@@ -296,12 +286,10 @@ pub fn find_cycle<'a>(
     arity: &'a [u8; 64],
     child: &'a [u8; 256],
 ) -> Circle
-    ghost g: { Terms }
-    requires child_value { terms n kind.now symbol.now arity.now child.now ≡ g }
     requires table { Table table }
-    requires formed { Formed g }
-    requires peeled { Peeled g table heights.height heights.left }
-    ensures { (s : State) → Nodes g s → Exact s table → Cycle s
+    requires formed { let g : Terms = terms n kind.now symbol.now arity.now child.now in Formed g }
+    requires peeled { let g : Terms = terms n kind.now symbol.now arity.now child.now in Peeled g table heights.height heights.left }
+    ensures { let g : Terms = terms n kind.now symbol.now arity.now child.now in (s : State) → Nodes g s → Exact s table → Cycle s
         → LeadsBack g table result.node result.search.parent result.search.place result.search.into result.search.level }
 {
     let mut u: usize = 0;

@@ -176,9 +176,7 @@ fn reply_to<'a>(
     right: u16,
     proof: &mut [u8],
 ) -> Reply
-    ghost w: { Workspace }
-    requires { workspace_of (terms n kind.now symbol.now arity.now child.now) (equations m names.now lefts.now rights.now) ≡ w }
-    ensures { Settles w (equation_of name left right) proof.old proof.new result }
+    ensures { let w : Workspace = workspace_of (terms n kind.now symbol.now arity.now child.now) (equations m names.now lefts.now rights.now) in Settles w (equation_of name left right) proof.old proof.new result }
 {
     let mut trace = [0u16; 64];
     let held = examine(

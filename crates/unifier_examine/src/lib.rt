@@ -32,11 +32,9 @@ fn solve<'a>(
     left: &'a [u8; 256],
     right: &'a [u8; 256],
 ) -> Examined
-    ghost w: { Terms × Equations }
-    requires right_value { (terms n kind.now symbol.now arity.now child.now, equations m name.now left.now right.now) ≡ w }
-    requires shape { Shape w.0 w.1 }
+    requires shape { let w : Terms × Equations = (terms n kind.now symbol.now arity.now child.now, equations m name.now left.now right.now) in Shape w.0 w.1 }
     requires trace_len { length trace.old ≡ 64 }
-    ensures { Examines w.0 w.1 trace.new result }
+    ensures { let w : Terms × Equations = (terms n kind.now symbol.now arity.now child.now, equations m name.now left.now right.now) in Examines w.0 w.1 trace.new result }
 {
     let o = solve::decide(trace, n, kind, symbol, arity, child, m, left, right);
     let table = o.table;
