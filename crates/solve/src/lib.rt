@@ -38,7 +38,7 @@ fn judge<'a>(
     arity: &'a [u8; 64],
     child: &'a [u8; 256],
 ) -> SolveResult
-    requires judging { let g : Terms = terms n kind.now symbol.now arity.now child.now in Judging g o.table o.clash o.left o.right }
+    requires { let g : Terms = terms n kind.now symbol.now arity.now child.now in Judging g o.table o.clash o.left o.right }
     ensures left_over { let g : Terms = terms n kind.now symbol.now arity.now child.now in LeftOver g result.table result.heights.height result.heights.left result.verdict }
     ensures decided { let g : Terms = terms n kind.now symbol.now arity.now child.now in (s : State) (tr : List ℕ) → Nodes g s
         → Settled g s o.table tr o.steps o.clash o.left o.right
@@ -112,7 +112,7 @@ pub fn extend<'a>(
     x: u8,
     y: u8,
 ) -> SolveResult
-    requires offer_fits { let g : Terms = terms n kind.now symbol.now arity.now child.now in OfferFits g m x y table trace.old steps }
+    requires { let g : Terms = terms n kind.now symbol.now arity.now child.now in OfferFits g m x y table trace.old steps }
     ensures left_over { let g : Terms = terms n kind.now symbol.now arity.now child.now in LeftOver g result.table result.heights.height result.heights.left result.verdict }
     ensures decided { let g : Terms = terms n kind.now symbol.now arity.now child.now in (s : State) (e : Equation)
         → Before g s e m x y table trace.old steps

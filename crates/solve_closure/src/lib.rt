@@ -33,7 +33,7 @@ fn pair<'a>(
     arity: &'a [u8; 64],
     child: &'a [u8; 256],
 ) -> Settling
-    requires meeting { let g : Terms = terms n kind.now symbol.now arity.now child.now in Meeting g u v table trace.old steps }
+    requires { let g : Terms = terms n kind.now symbol.now arity.now child.now in Meeting g u v table trace.old steps }
     ensures pair { let g : Terms = terms n kind.now symbol.now arity.now child.now in Pair g u v
         table trace.old steps result.table trace.new result.steps result.clash }
     ensures left_value { (result.left ≡ u) × (result.right ≡ v) }
@@ -173,7 +173,7 @@ pub fn settle_offered<'a>(
     x: u8,
     y: u8,
 ) -> Settling
-    requires offer_fits { let g : Terms = terms n kind.now symbol.now arity.now child.now in OfferFits g m x y table trace.old steps }
+    requires { let g : Terms = terms n kind.now symbol.now arity.now child.now in OfferFits g m x y table trace.old steps }
     ensures rounds_ended { let g : Terms = terms n kind.now symbol.now arity.now child.now in RoundsEnded g
         result.table trace.new result.steps result.clash result.left result.right }
     ensures settled { let g : Terms = terms n kind.now symbol.now arity.now child.now in (s : State) (e : Equation)

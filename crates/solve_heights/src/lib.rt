@@ -72,7 +72,7 @@ fn visit(
     arity: &[u8; 64],
     child: &[u8; 256],
 ) -> u8
-    requires visiting { let g : Terms = terms n kind.now symbol.now arity.now child.now in Visiting g table.now height.old pending.old waiting.old went u }
+    requires { let g : Terms = terms n kind.now symbol.now arity.now child.now in Visiting g table.now height.old pending.old waiting.old went u }
     ensures { let g : Terms = terms n kind.now symbol.now arity.now child.now in Visited g table.now
         height.old pending.old went u height.new pending.new waiting.new result }
 {
