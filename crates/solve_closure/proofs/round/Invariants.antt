@@ -1,5 +1,5 @@
 -- `solve_closure::round` meets its contract: the nodes from i up are visited.
-use Prim.Native.Nat.{◌≤◌, ◌-◌}
+use Prim.Native.Nat.{◌≤◌}
 use Rattle.store.specs.Views.{terms}
 use Rattle.solve_closure.proofs.VisitLaws.{Passed}
 use Rattle.solve_closure.proofs.round.Given as goal

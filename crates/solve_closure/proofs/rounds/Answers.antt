@@ -1,5 +1,4 @@
 -- `solve_closure::rounds` meets its contract: each round but the last lengthens the trace, which has at most 63 entries.
-use Prim.Native.Nat.{◌-◌}
 use Rattle.solve_trace.proofs.StepLaws.{extends_none, extends_more}
 use Rattle.solve_closure.proofs.VisitLaws.{rounds_clash, rounds_closed}
 use native.Mathlib.Omega.{arith}
