@@ -22,7 +22,7 @@ use Rattle.base.proofs.CaseLaws.{same_or_other}
 use Rattle.solve_heights.proofs.CountLaws.{sum_one}
 use Rattle.solve_heights.proofs.PassLaws.{turns_none, turns_more, turns_all}
 use Rattle.solve_reach.specs.Reach.{Onward, Ways}
-use Rattle.solve_reach.specs.Search.{Source, Step, StepsDown, Explored, Reached, reached_at, Reaching, Entered, before, now, Grown, Expanding, Expanded, SearchPassed}
+use Rattle.solve_reach.specs.Search.{Source, Step, StepsDown, Reached, reached_at, Reaching, Entered, before, now, Grown, Expanding, Expanded, SearchPassed}
 
 -- ---- summands
 
@@ -207,10 +207,11 @@ module _ (g : Terms) (t : List ℕ) (u : ℕ) where
     p_low : p < 64
     p_low = omega (arith, U.known, F.most)
 
-    pub expand_more : (j : ℕ) {parent place into next a b c later : List ℕ} (more most : ℕ) → j < arity_at g p
+    -- as `expand_more`, with the arguments in the order in which the cases fix them
+    entered : (j : ℕ) {parent place into next : List ℕ} (more : ℕ) {a b c later : List ℕ} (most : ℕ) → j < arity_at g p
         → Expanding g t level u r p j parent place into next more → Entered t g.child p j parent place into next more a b c later most
         → Expanding g t level u r p (j + 1) a b c later most
-    expand_more j {next = next} more most l X (before n) =
+    entered j {next = next} more most l X (before n) =
         record {
           reaching = X.reaching;
           grown = X.grown;
@@ -219,7 +220,7 @@ module _ (g : Terms) (t : List ℕ) (u : ℕ) where
       where
         there : (x : ℕ) → (x ≡ 0 → ⊥) → 1 ≤ x
         there x n = omega arith
-    expand_more j {parent} {place} {into} {next} more most l X (now k d ek ed new) =
+    entered j {parent} {place} {into} {next} more most l X (now k d ek ed new) =
         let S : Step g t d p (j + 1) k = record { functor = U; index = j; within = l; place = add-one j; child = ek; in_class_lem = sym ed } in
         let k_low : k < 64 = omega (arith, ek, child_low g F p U j l) in
         let d_low : d < 64 = omega (arith, ed, T.low k k_low) in
@@ -234,6 +235,11 @@ module _ (g : Terms) (t : List ℕ) (u : ℕ) where
               below_more (λ i. 1 ≤ get_or (set next d (more + 1)) (under g t p i) 0) j (λ i m. W.1.kept (under g t p i) (X.children i m))
               (omega (arith, H, ap (λ (z : ℕ). get_or (set next d (more + 1)) z 0) e));
         }
+
+    pub expand_more : (j : ℕ) {parent place into next a b c later : List ℕ} (more most : ℕ) → j < arity_at g p
+        → Expanding g t level u r p j parent place into next more → Entered t g.child p j parent place into next more a b c later most
+        → Expanding g t level u r p (j + 1) a b c later most
+    expand_more j more most l X E = entered j more most l X E
 
     pub expand_all : {parent place into next : List ℕ} (j more : ℕ) → arity_at g p ≤ j → Expanding g t level u r p j parent place into next more
         → Expanded g t level u r p parent place into next more

@@ -4,7 +4,7 @@
 --   Ways      what the arrays say of each other: from a reached class the way up goes on, at a lower level, to the class of u
 --   Edges     each reached class has a step down into it, in the state
 --   Searched  all this, and a class was reached exactly when its nodes lie below u
-use Rattle.std.specs.Prelude.{◌≡◌, List, ℕ, ◌-◌, ◌≤◌, ◌<◌, length, get_or}
+use Rattle.std.specs.Prelude.{◌≡◌, List, ℕ, ◌-◌, ◌≤◌, ◌<◌, get_or}
 use Rattle.std.proofs.Math.Option.{some}
 use Rattle.graph.specs.State.{State, IsNode}
 use Rattle.graph.specs.Closure.{Below}
