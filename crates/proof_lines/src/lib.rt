@@ -28,7 +28,7 @@ pub enum Decoded {
 }
 
 // Which fields a rule uses.
-#[derive(Drop)]
+#[derive(Clone, Copy)]
 pub struct Row {
     pub first: bool,
     pub second: bool,

@@ -7,14 +7,7 @@ use Rattle.proof_lines.specs.declared.Row.{Row}
 use Rattle.proof_lines.specs.Reading.{uses_in}
 use Rattle.proof_lines.proofs.RowLaws.{uses_low, uses_high, uses_at}
 use borrow.Author.Rules.{rules}
-use Rattle.proof_lines.proofs.row_of.Statement.{statement}
-use Rattle.proof_lines.proofs.row_of.Tie as tie
-
-returns : tie.Need-returns
-returns c = uses_low _ c.if1.true
-
-returns-2 : tie.Need-returns-2
-returns-2 c = uses_high _ c.if2.true
+use Rattle.proof_lines.proofs.row_of.Goals as goal
 
 -- the source's table
 rows : List Row
@@ -32,10 +25,12 @@ rows_right : map uses_in rows ≡ rule_table
 unfolding rows
 rows_right = refl
 
-returns-3 : tie.Need-returns-3
-unfolding rows
-returns-3 c = uses_at rows _ rows_right c.before.before.before.args.rule (search rules) (search rules)
+pub returns-then-rule-lt1 : goal.returns-then-rule-lt1
+returns-then-rule-lt1 c = uses_low _ c.if-rule-lt1.true
 
-pub row-of-spec : {M : Type 1} → statement M
-row-of-spec =
-    tie.close (tie.spec returns returns-2 (λ c. search rules) (λ c. search rules) (λ c. search rules) returns-3)
+pub returns-then-rule-gt6 : goal.returns-then-rule-gt6
+returns-then-rule-gt6 c = uses_high _ c.if-rule-gt6.true
+
+pub returns : goal.returns
+unfolding rows
+returns c = uses_at rows _ rows_right c.args.rule (search rules) (search rules)
