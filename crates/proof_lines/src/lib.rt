@@ -8,7 +8,7 @@ ghost use Rattle.proof_lines.specs.Codec.{two, line, line_at, Put};
 ghost use Rattle.proof_lines.specs.Reading.{line_of, fields_of, decoded, uses_in};
 
 // The fields of a line as they stand.
-#[derive(Drop)]
+#[derive(Clone, Copy)]
 pub struct Fields {
     pub rule: u8,
     pub place: u8,

@@ -39,7 +39,7 @@ pub const SAME: u8 = 0;
 pub const BELOW: u8 = 1;
 
 // Perhaps one equation offered beside the held ones: its name, its left and its right end.
-#[derive(Drop)]
+#[derive(Clone, Copy)]
 pub enum OfferAsked {
     Nothing,
     Equation(u16, u16, u16),
