@@ -25,7 +25,7 @@ pub enum Walked {
 }
 
 // What a proof is to show.
-#[derive(Drop)]
+#[derive(Clone, Copy)]
 pub enum GoalAsked {
     Clash,
     Cycle,

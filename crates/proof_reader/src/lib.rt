@@ -1,6 +1,5 @@
 // The reader of a proof: it holds the lent lines and the number of the line that it has come to. `step_at`, which takes a plain slice
-// and a number, does the work and is covered; `step`, over the struct, is proved by hand, and so is `read_line`, which makes a reader
-// of plain parameters, so that its callers are covered.
+// and a number, does the work; `step` is over the struct; and `read_line` makes a reader of plain parameters.
 #![tactic(auto)]
 
 ghost use Rattle.std.specs.Prelude.{◌≡◌, ◌/◌, length};
