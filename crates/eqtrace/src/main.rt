@@ -1,6 +1,8 @@
 // The program `eqtrace`.
 #![tactic(auto)]
 
-fn main() {
-    eqtrace_console::run();
+use std::io;
+
+fn main(rt: HostRuntime) -> io::Result<()> {
+    eqtrace_console::run(&mut rt.stdin(), &mut rt.stdout())
 }

@@ -1,6 +1,8 @@
 // An input of 65,536 bytes, `K` among them, most of them one order.
 #![tactic(auto)]
 
-fn main() {
-    eqtrace_console::run();
+use std::io;
+
+fn main(rt: HostRuntime) -> io::Result<()> {
+    eqtrace_console::run(&mut rt.stdin(), &mut rt.stdout())
 }

@@ -3,7 +3,8 @@
 
 ghost use Rattle.std.specs.Prelude.{◌≤◌, length};
 
-use libc::{STDIN_FILENO, STDOUT_FILENO};
+use std::io;
+use std::io::Write;
 
 // Where the input that begins at `at` ends.
 fn input_end(all: &[u8], at: usize) -> usize
@@ -20,26 +21,35 @@ fn input_end(all: &[u8], at: usize) -> usize
     i
 }
 
-fn answer_each<'a>(
+fn answer_each<'a, W: Write>(
     all: &'a [u8],
     proof: &mut [u8; 65536],
     names: &mut [u16; 8192],
     out: &mut [u8; 49184],
-) {
+    to: &mut W,
+) -> io::Result<()> {
     let mut at: usize = 0;
     while at < all.len() {
         let e = input_end(all, at);
-        let _w = eqtrace_console::answer_all(&all[at..e], proof, names, out);
-        io::write_all(STDOUT_FILENO, b"=\n");
+        let answered = eqtrace_console::answer_all(&all[at..e], proof, names, out, to);
+        answered.written?;
+        to.write_all(b"=\n")?;
         at = e + 1;
     }
+    Ok(())
 }
 
-fn main() {
+fn main(rt: HostRuntime) -> io::Result<()> {
     let mut all = [0u8; 8192];
-    let n = io::read_full(STDIN_FILENO, &mut all);
+    let n = eqtrace_console::read_full(&mut rt.stdin(), &mut all)?;
     let mut proof = [0u8; 65536];
     let mut names = [0u16; 8192];
     let mut out = [0u8; 49184];
-    answer_each(&all[..n], &mut proof, &mut names, &mut out);
+    answer_each(
+        &all[..n],
+        &mut proof,
+        &mut names,
+        &mut out,
+        &mut rt.stdout(),
+    )
 }

@@ -1,6 +1,7 @@
 // The shorter of two: which list, its bytes, and each refusal.
 use super::{proved, sample, tools};
 use proof_shorter::ShorterReply;
+use std::io;
 use test_solver::checker;
 use test_solver::checker::Question;
 use test_solver::numbers::byte;
@@ -63,18 +64,18 @@ pub fn which(r: ShorterReply) -> u8 {
     }
 }
 
-fn show(r: ShorterReply) {
+fn show(rt: &impl Print, r: ShorterReply) -> io::Result<()> {
     match r {
-        ShorterReply::First => say(b": the first\n", 0),
-        ShorterReply::Second => say(b": the second\n", 0),
-        ShorterReply::Refused(k) => tools::told(0 < k, b": refused #\n", k as usize),
+        ShorterReply::First => say(rt, b": the first\n", 0),
+        ShorterReply::Second => say(rt, b": the second\n", 0),
+        ShorterReply::Refused(k) => tools::told(rt, 0 < k, b": refused #\n", k as usize),
         ShorterReply::RefusedIn(k, list) => {
             let n: [usize; 2] = [k as usize, list as usize];
-            print(b": refused # in list #\n", &n, 0);
+            print(rt, b": refused # in list #\n", &n, 0)
         }
         ShorterReply::BrokenIn(list, line) => {
             let n: [usize; 2] = [list as usize, line as usize];
-            print(b": refused 12 in list #, line #\n", &n, 0);
+            print(rt, b": refused 12 in list #, line #\n", &n, 0)
         }
     }
 }
@@ -96,66 +97,72 @@ fn list<'a>(k: usize, p: &'a [u8], desk: &'a [u8]) -> &'a [u8] {
     }
 }
 
-fn pairs<'a>(w: Workspace, p: &'a [u8], desk: &'a [u8]) {
+fn pairs<'a>(rt: &impl Print, w: Workspace, p: &'a [u8], desk: &'a [u8]) -> io::Result<()> {
     let mut i: usize = 0;
     while i < 64 {
         let n: [usize; 2] = [i / 8, i % 8];
-        print(b"lists # and #", &n, 0);
+        print(rt, b"lists # and #", &n, 0)?;
         let a = list(i / 8, p, desk);
-        show(choose(w, sample::same(5, 2), a, list(i % 8, p, desk)));
+        show(rt, choose(w, sample::same(5, 2), a, list(i % 8, p, desk)))?;
         i += 1;
     }
+    Ok(())
 }
 
-pub fn lists(w: Workspace, p: &[u8]) {
+pub fn lists(rt: &impl Print, w: Workspace, p: &[u8]) -> io::Result<()> {
     let mut desk = [0u8; 73736];
     say(
+        rt,
         b"lists: 0 the proof of 5 same 2, 1 and 2 one line more, 3 rule 0 in line 1, 4 self, 5 9 bytes, 6 no bytes, 7 65544 bytes\n",
         0,
-    );
+    )?;
     lengthen(&mut desk, 0, p, 0);
     lengthen(&mut desk, 4096, p, 1);
     bytes::set(&mut desk, 8192, 3);
-    pairs(w, p, &desk);
+    pairs(rt, w, p, &desk)
 }
 
 // Refusals that come before the lists'
 
-fn early(what: &[u8], w: Workspace, x: Question) {
+fn early(rt: &impl Print, what: &[u8], w: Workspace, x: Question) -> io::Result<()> {
     let none: [u8; 0] = [];
-    say(what, 0);
-    show(choose(w, x, &none, &none));
+    say(rt, what, 0)?;
+    show(rt, choose(w, x, &none, &none))
 }
 
-pub fn earlies(w: Workspace) {
+pub fn earlies(rt: &impl Print, w: Workspace) -> io::Result<()> {
     let below = checker::asking(sample::same(9, 5), checker::BELOW, 9, 5);
-    early(b"no bytes, same 5 and 9", w, sample::same(5, 9));
-    early(b"no bytes, below 9 and 5", w, below);
+    early(rt, b"no bytes, same 5 and 9", w, sample::same(5, 9))?;
+    early(rt, b"no bytes, below 9 and 5", w, below)?;
     early(
+        rt,
         b"no bytes, 8 = 9 offered, its name held",
         w,
         checker::offering(true, 10, 8, 9),
-    );
+    )?;
     early(
+        rt,
         b"no bytes, 8 = 7 offered, its name held",
         w,
         checker::offering(true, 10, 8, 7),
-    );
+    )?;
     early(
+        rt,
         b"no bytes, 8 = 7 offered",
         w,
         checker::offering(true, 13, 8, 7),
-    );
+    )
 }
 
 // A refusal's own proof, which names the offered equation.
-pub fn clash(w: Workspace, proof: &mut [u8]) {
+pub fn clash(rt: &impl Print, w: Workspace, proof: &mut [u8]) -> io::Result<()> {
     let o = w.equate(13, 8, 7, proof);
     let r = o.reply;
     let p = bytes::part(proof, 0, replies::changed_bytes(r));
     tools::told(
+        rt,
         proved::good(w, checker::offering(true, 13, 8, 7), p),
         b"8 = 7 offered, the proof of its clash: passed, written, read back, chosen\n",
         0,
-    );
+    )
 }

@@ -1,6 +1,7 @@
 // A real proof's file: written, read and passed again, and then with each bit damaged in turn.
 use super::tools::place_if;
 use super::{files, proved, reading, sample, tools};
+use std::io;
 use test_solver::checker;
 use test_solver::numbers::{add, byte, only};
 use test_tools::bytes::low8;
@@ -87,19 +88,21 @@ fn bits(w: Workspace, file: &mut [u8], size: usize, tally: &mut [usize]) {
     }
 }
 
-pub fn all(w: Workspace, lines: &[u8]) {
+pub fn all(rt: &impl Print, w: Workspace, lines: &[u8]) -> io::Result<()> {
     let mut file = [0u8; 4096];
     let mut tally = [0usize; 7];
     tools::told(
+        rt,
         proved::good(w, sample::same(5, 2), lines),
         b"the proof of 5 same 2: passed, written, read back, chosen\n",
         0,
-    );
+    )?;
     let size = proved::filed(lines, &mut file);
     bits(w, &mut file, size, &mut tally);
     tools::show(
+        rt,
         b"its file with each bit damaged, refused 14: #\nrefused 15: #\nrefused 12 at the damaged line, as must be: #\nrefused 12 there or later: #\nrefused 13: #\npassed: #\n",
         &tally,
         1,
-    );
+    )
 }

@@ -1,6 +1,7 @@
 // Writing and reading at their limits: each reached, and passed by one.
 use super::tools;
 use proof_file::{ReadReply, WriteReply};
+use std::io;
 use test_solver::numbers::{byte, pair};
 use test_tools::{bytes, print};
 
@@ -63,32 +64,33 @@ pub fn write_in(lines: &[u8], out: &mut [u8], room: usize) -> WriteReply {
     WriteReply::Refused(0)
 }
 
-fn show(r: WriteReply, lines: &[u8], out: &[u8]) {
+fn show(rt: &impl Print, r: WriteReply, lines: &[u8], out: &[u8]) -> io::Result<()> {
     match r {
         WriteReply::Wrote(n) => {
             let ok = as_written(lines, n, out);
-            tools::told(ok, b": wrote #, the rest unchanged\n", n);
+            tools::told(rt, ok, b": wrote #, the rest unchanged\n", n)
         }
         WriteReply::Refused(k) => {
             let ok = as_written(lines, 0, out);
-            tools::told(ok, b": refused #, all unchanged\n", k as usize);
+            tools::told(rt, ok, b": refused #, all unchanged\n", k as usize)
         }
     }
 }
 
-fn write_case(lines: &[u8], out: &mut [u8], room: usize) {
+fn write_case(rt: &impl Print, lines: &[u8], out: &mut [u8], room: usize) -> io::Result<()> {
     let n: [usize; 2] = [lines.len(), room];
-    print(b"write # bytes of lines into #", &n, 0);
-    show(write_in(lines, out, room), lines, out);
+    print(rt, b"write # bytes of lines into #", &n, 0)?;
+    show(rt, write_in(lines, out, room), lines, out)
 }
 
-fn writes(out: &mut [u8]) {
+fn writes(rt: &impl Print, out: &mut [u8]) -> io::Result<()> {
     let lines = [90u8; 65544];
     let mut k: usize = 0;
     while k < 10 {
-        write_case(bytes::part(&lines, 0, SIZES[k]), out, ROOMS[k]);
+        write_case(rt, bytes::part(&lines, 0, SIZES[k]), out, ROOMS[k])?;
         k += 1;
     }
+    Ok(())
 }
 
 // Reading
@@ -110,52 +112,61 @@ pub fn refusal(file: &[u8]) -> usize {
 }
 
 // What is handed back are the bytes after the seventh, or none.
-fn show_read(file: &[u8]) {
+fn show_read(rt: &impl Print, file: &[u8]) -> io::Result<()> {
     let lines = proof_file::read(file);
     let k = refusal(file);
     if k == 0 {
         let ok = bytes::equal(lines, bytes::part(file, 7, file.len()));
-        tools::told(ok, b": readable, # bytes handed back\n", lines.len());
+        tools::told(rt, ok, b": readable, # bytes handed back\n", lines.len())
     } else {
-        tools::told(lines.len() == 0, b": refused #, none handed back\n", k);
+        tools::told(rt, lines.len() == 0, b": refused #, none handed back\n", k)
     }
 }
 
-fn read_case(s: &[u8], length: usize) {
+fn read_case(rt: &impl Print, s: &[u8], length: usize) -> io::Result<()> {
     let n: [usize; 3] = [pair(s, 3), pair(s, 5), length];
-    print(bytes::part(s, 0, 3), &n, 0);
-    print(b" version # count # in # bytes", &n, 0);
-    show_read(bytes::part(s, 0, length));
+    print(rt, bytes::part(s, 0, 3), &n, 0)?;
+    print(rt, b" version # count # in # bytes", &n, 0)?;
+    show_read(rt, bytes::part(s, 0, length))
 }
 
-fn spoilt(file: &mut [u8], count: usize, at: usize, x: u8, length: usize) {
+fn spoilt(
+    rt: &impl Print,
+    file: &mut [u8],
+    count: usize,
+    at: usize,
+    x: u8,
+    length: usize,
+) -> io::Result<()> {
     put_header(file, count);
     bytes::set(file, at, x);
-    read_case(file, length);
+    read_case(rt, file, length)
 }
 
-fn marks(file: &mut [u8]) {
+fn marks(rt: &impl Print, file: &mut [u8]) -> io::Result<()> {
     let mut k: usize = 0;
     while k < 5 {
-        spoilt(file, 1, PLACES[k], BYTES[k], 15);
+        spoilt(rt, file, 1, PLACES[k], BYTES[k], 15)?;
         k += 1;
     }
+    Ok(())
 }
 
-fn lengths(file: &mut [u8]) {
+fn lengths(rt: &impl Print, file: &mut [u8]) -> io::Result<()> {
     let mut k: usize = 0;
     while k < 9 {
         let count = COUNTS[k];
         let length = LENGTHS[k];
-        spoilt(file, count, 2, b'H', length);
-        spoilt(file, count, 2, b'X', length);
+        spoilt(rt, file, count, 2, b'H', length)?;
+        spoilt(rt, file, count, 2, b'X', length)?;
         k += 1;
     }
+    Ok(())
 }
 
-pub fn all() {
+pub fn all(rt: &impl Print) -> io::Result<()> {
     let mut file = [165u8; 65551];
-    writes(&mut file);
-    marks(&mut file);
-    lengths(&mut file);
+    writes(rt, &mut file)?;
+    marks(rt, &mut file)?;
+    lengths(rt, &mut file)
 }

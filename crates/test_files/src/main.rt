@@ -11,23 +11,25 @@ mod reading; // line by line
 mod sample; // a workspace that has a proof of every kind
 mod tools; // what came otherwise
 
+use std::io;
+
 // The proofs of the sample's calls.
-fn proofs(proof: &mut [u8]) {
+fn proofs(rt: &impl Print, proof: &mut [u8]) -> io::Result<()> {
     let w = sample::workspace(proof);
     let n = sample::prove(w, proof);
-    damage::all(w, test_tools::bytes::part(proof, 0, n));
-    choosing::lists(w, test_tools::bytes::part(proof, 0, n));
-    choosing::earlies(w);
-    choosing::clash(w, proof);
+    damage::all(rt, w, test_tools::bytes::part(proof, 0, n))?;
+    choosing::lists(rt, w, test_tools::bytes::part(proof, 0, n))?;
+    choosing::earlies(rt, w)?;
+    choosing::clash(rt, w, proof)
 }
 
-fn main() {
+fn main(rt: HostRuntime) -> io::Result<()> {
     let mut proof = [165u8; 65536];
     let w = no_workspace::own_child();
-    no_workspace::changes(w, &mut proof);
-    no_workspace::questions(w, &mut proof);
-    files::all();
-    reading::all();
-    proofs(&mut proof);
-    random::all(&mut proof);
+    no_workspace::changes(&rt, w, &mut proof)?;
+    no_workspace::questions(&rt, w, &mut proof)?;
+    files::all(&rt)?;
+    reading::all(&rt)?;
+    proofs(&rt, &mut proof)?;
+    random::all(&rt, &mut proof)
 }

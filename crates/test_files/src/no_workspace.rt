@@ -1,6 +1,7 @@
 // Refusal 1's small example: node 0 has child 0. Every call refuses it; clear takes it, and what it gives is a workspace without nodes.
 use super::sample;
 use proof_shorter::ShorterReply;
+use std::io;
 use test_solver::book;
 use test_solver::numbers::put;
 use test_tools::{print, replies, workspaces};
@@ -47,20 +48,21 @@ fn chosen(w: Workspace, line: &[u8]) -> usize {
     }
 }
 
-pub fn changes(w: Workspace, proof: &mut [u8]) {
+pub fn changes(rt: &impl Print, w: Workspace, proof: &mut [u8]) -> io::Result<()> {
     let none: [u16; 0] = [];
     let a = changed(w.declare_variable());
     let b = changed(w.declare_functor(1, &none));
     let c = changed(w.equate(10, 0, 0, proof));
     let n: [usize; 4] = [a, b, c, changed(w.withdraw(10))];
     print(
+        rt,
         b"node 0 has child 0, declare a variable: refused #\ndeclare a functor node: refused #\nequate: refused #\nwithdraw: refused #\n",
         &n,
         0,
-    );
+    )
 }
 
-pub fn questions(w: Workspace, proof: &mut [u8]) {
+pub fn questions(rt: &impl Print, w: Workspace, proof: &mut [u8]) -> io::Result<()> {
     let line: [u8; 8] = [3, 0, 0, 0, 0, 0, 0, 0];
     let n: [usize; 5] = [
         compare(w, proof),
@@ -70,8 +72,9 @@ pub fn questions(w: Workspace, proof: &mut [u8]) {
         class_of(w.clear()),
     ];
     print(
+        rt,
         b"compare: refused #\nclass: refused #\ncheck: refused #\nshorter of two: refused #\nclear, then class of node 0: refused #\n",
         &n,
         0,
-    );
+    )
 }

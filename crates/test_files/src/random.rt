@@ -1,5 +1,6 @@
 // Random workspaces: every proof that their calls give passes, is written, read back, read line by line, and chosen against a longer one.
 use super::{proved, tools};
+use std::io;
 use test_solver::checker;
 use test_solver::checker::Question;
 use test_solver::numbers::{add, get, put};
@@ -102,17 +103,19 @@ fn rounds(tally: &mut [usize], proof: &mut [u8]) {
     }
 }
 
-pub fn all(proof: &mut [u8]) {
+pub fn all(rt: &impl Print, proof: &mut [u8]) -> io::Result<()> {
     let mut tally = [0usize; 64];
     rounds(&mut tally, proof);
     print(
+        rt,
         b"random workspaces, held: #\nclash: #\ncycle: #\n",
         &tally,
         replies::HELD,
-    );
+    )?;
     tools::show(
+        rt,
         b"same: #\nbelow: #\nabove: #\napart: #\n",
         &tally,
         replies::SAME,
-    );
+    )
 }

@@ -1,6 +1,7 @@
 // The line reader, by its struct's step and by the plain one.
 use super::tools;
 use proof_reader::{Found, NextLine};
+use std::io;
 use test_solver::numbers::{byte, pair};
 use test_tools::{bytes, print, say};
 
@@ -47,7 +48,7 @@ pub fn all_stand(s: &[u8]) -> bool {
     ok
 }
 
-fn show(f: Found) {
+fn show(rt: &impl Print, f: Found) -> io::Result<()> {
     let line = f.line;
     match line {
         NextLine::Fields {
@@ -66,27 +67,29 @@ fn show(f: Found) {
                 f.at,
             ];
             print(
+                rt,
                 b": rule #, place #, first #, second #, reserved #; then line #",
                 &n,
                 0,
-            );
+            )
         }
-        NextLine::End => say(b": the end; still line #", f.at),
+        NextLine::End => say(rt, b": the end; still line #", f.at),
     }
 }
 
-fn step(s: &[u8], k: usize) {
+fn step(rt: &impl Print, s: &[u8], k: usize) -> io::Result<()> {
     let n: [usize; 3] = [proof_reader::count_lines(s), s.len(), k];
-    print(b"# lines in # bytes, line #", &n, 0);
-    show(proof_reader::read_line(s, k));
-    tools::told(stands(s, k), b"\n", 0);
+    print(rt, b"# lines in # bytes, line #", &n, 0)?;
+    show(rt, proof_reader::read_line(s, k))?;
+    tools::told(rt, stands(s, k), b"\n", 0)
 }
 
-pub fn all() {
+pub fn all(rt: &impl Print) -> io::Result<()> {
     let s: [u8; 16] = [1, 2, 3, 4, 5, 6, 7, 8, 255, 0, 255, 255, 0, 255, 255, 255];
     let mut k: usize = 0;
     while k < 10 {
-        step(bytes::part(&s, 0, SIZES[k]), LINES[k]);
+        step(rt, bytes::part(&s, 0, SIZES[k]), LINES[k])?;
         k += 1;
     }
+    Ok(())
 }

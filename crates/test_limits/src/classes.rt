@@ -1,5 +1,6 @@
 // Class numbers and sizes: a class's lowest functor node, or else its lowest variable.
 use super::edges;
+use std::io;
 use test_tools::bytes::low16;
 use test_tools::{replies, say, workspaces};
 use unifier::Workspace;
@@ -8,17 +9,17 @@ fn wide(x: u16) -> usize {
     x as usize
 }
 
-fn class(what: &[u8], w: Workspace, u: u16) {
+fn class(rt: &impl Print, what: &[u8], w: Workspace, u: u16) -> io::Result<()> {
     let o = w.class_of(u);
     let r = o.reply;
     let code = replies::classified(r);
-    say(what, 0);
-    say(b", class of #: ", wide(u));
+    say(rt, what, 0)?;
+    say(rt, b", class of #: ", wide(u))?;
     if code < replies::CLASS {
-        say(b"refused #\n", code);
+        say(rt, b"refused #\n", code)
     } else {
-        say(b"number #, ", (code >> 8) % 256);
-        say(b"size #\n", code % 256);
+        say(rt, b"number #, ", (code >> 8) % 256)?;
+        say(rt, b"size #\n", code % 256)
     }
 }
 
@@ -35,31 +36,31 @@ fn five() -> Workspace {
     workspaces::functor(b, 7, &none)
 }
 
-fn alone(w: Workspace) {
-    class(b"alone", w, 0);
-    class(b"alone", w, 1);
-    class(b"alone", w, 5);
+fn alone(rt: &impl Print, w: Workspace) -> io::Result<()> {
+    class(rt, b"alone", w, 0)?;
+    class(rt, b"alone", w, 1)?;
+    class(rt, b"alone", w, 5)
 }
 
 // Symbol 0 is a type as any other.
-fn two(w: Workspace, buf: &mut [u8; 65536]) -> Workspace {
+fn two(rt: &impl Print, w: Workspace, buf: &mut [u8; 65536]) -> io::Result<Workspace> {
     let a = workspaces::equated(w, 1, 0, 1, buf);
-    class(b"0 = 1", a, 0);
-    class(b"0 = 1", a, 1);
+    class(rt, b"0 = 1", a, 0)?;
+    class(rt, b"0 = 1", a, 1)?;
     let b = withdrawn(a, 1);
-    class(b"withdrawn", b, 0);
-    class(b"withdrawn", b, 1);
-    b
+    class(rt, b"withdrawn", b, 0)?;
+    class(rt, b"withdrawn", b, 1)?;
+    Ok(b)
 }
 
-fn four(w: Workspace, buf: &mut [u8; 65536]) {
+fn four(rt: &impl Print, w: Workspace, buf: &mut [u8; 65536]) -> io::Result<()> {
     let a = workspaces::equated(w, 2, 0, 3, buf);
-    class(b"0 = 3", a, 3);
+    class(rt, b"0 = 3", a, 3)?;
     let b = workspaces::equated(a, 3, 3, 4, buf);
-    class(b"0 = 3 = 4", b, 0);
+    class(rt, b"0 = 3 = 4", b, 0)?;
     let c = workspaces::equated(b, 4, 4, 2, buf);
-    class(b"0 = 3 = 4 = 2", c, 0);
-    class(b"0 = 3 = 4 = 2", c, 4);
+    class(rt, b"0 = 3 = 4 = 2", c, 0)?;
+    class(rt, b"0 = 3 = 4 = 2", c, 4)
 }
 
 // Equations from 0 = 1 on, each of a node with the next.
@@ -81,21 +82,21 @@ fn chained(w: Workspace, buf: &mut [u8; 65536], times: usize) -> Workspace {
 }
 
 // Node 63 is a functor node, the others are variables.
-fn all_nodes(buf: &mut [u8; 65536]) {
+fn all_nodes(rt: &impl Print, buf: &mut [u8; 65536]) -> io::Result<()> {
     let none: [u16; 0] = [];
     let w = chained(workspaces::functor(edges::declared(63), 7, &none), buf, 62);
-    class(b"63 variables", w, 62);
+    class(rt, b"63 variables", w, 62)?;
     let full = workspaces::equated(w, 62, 62, 63, buf);
-    class(b"64 nodes", full, 0);
-    class(b"64 nodes", full, 63);
-    class(b"64 nodes", full, 64);
+    class(rt, b"64 nodes", full, 0)?;
+    class(rt, b"64 nodes", full, 63)?;
+    class(rt, b"64 nodes", full, 64)
 }
 
-pub fn all() {
+pub fn all(rt: &impl Print) -> io::Result<()> {
     let mut buf = [0u8; 65536];
     let w = five();
-    alone(w);
-    let back = two(w, &mut buf);
-    four(back, &mut buf);
-    all_nodes(&mut buf);
+    alone(rt, w)?;
+    let back = two(rt, w, &mut buf)?;
+    four(rt, back, &mut buf)?;
+    all_nodes(rt, &mut buf)
 }

@@ -3,6 +3,7 @@
 //
 // The valid one has the nodes 0 and 1, variables; 2 = symbol 7 of 0; 3 = symbol 71 of 0 and 1; 4, symbol 135 without children; and
 // the equations 10, 0 = 1, and 11, 1 = 4. The three symbols leave one remainder by 64.
+use std::io;
 use test_solver::numbers::{get, put};
 use test_solver::{book, checker};
 use test_tools::{bytes, expect, print, replies, say, workspaces};
@@ -265,19 +266,21 @@ fn accepted(w: Workspace) -> usize {
     replies::refusal(replies::classified(r))
 }
 
-pub fn all(buf: &mut [u8]) {
+pub fn all(rt: &impl Print, buf: &mut [u8]) -> io::Result<()> {
     let mut m = [0usize; 4096];
     valid(&mut m);
     say(
+        rt,
         b"refusals of the valid workspace: #\n",
         accepted(workspaces::load(&m)),
-    );
+    )?;
     columns(&mut m, buf);
     others(&mut m, buf);
     print(
+        rt,
         b"damaged workspaces: #\ncalls refused 1: #\nworkspaces and buffers back untouched: #\ncleared to a fresh one: #\n",
         &m,
         DAMAGED,
-    );
-    print(b"otherwise: #\n", &m, 0);
+    )?;
+    print(rt, b"otherwise: #\n", &m, 0)
 }

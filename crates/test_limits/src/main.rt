@@ -6,14 +6,16 @@ mod classes; // which node a class shows
 mod damaged; // workspaces with one bad field
 mod edges; // 64 nodes, 256 equations, 8,192 lines, 65,536 bytes
 
-fn main() {
+use std::io;
+
+fn main(rt: HostRuntime) -> io::Result<()> {
     let mut buf = [165u8; 65536];
     let mut lines = [0u8; 65544];
-    edges::nodes();
-    edges::equations(&mut buf);
-    edges::lines(&mut lines);
-    edges::buffers(&mut buf);
-    classes::all();
-    arities::all();
-    damaged::all(&mut buf);
+    edges::nodes(&rt)?;
+    edges::equations(&rt, &mut buf)?;
+    edges::lines(&rt, &mut lines)?;
+    edges::buffers(&rt, &mut buf)?;
+    classes::all(&rt)?;
+    arities::all(&rt)?;
+    damaged::all(&rt, &mut buf)
 }

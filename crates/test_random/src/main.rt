@@ -7,6 +7,7 @@ mod picks; // what is random
 mod proofs; // written proofs, and damaged ones
 mod questions; // the calls that change nothing
 
+use std::io;
 use test_solver::numbers::put;
 use test_tools::{bytes, print, workspaces};
 use unifier::Workspace;
@@ -72,45 +73,56 @@ fn rounds(m: &mut [usize], proof: &mut [u8]) {
     }
 }
 
-fn show(m: &[usize]) {
+fn show(rt: &impl Print, m: &[usize]) -> io::Result<()> {
     print(
+        rt,
         b"calls: #\nnodes declared: #\nheld: #\nclashes: #\ncycles: #\nwithdrawn: #\nheld at a freed place: #\ncleared: #\nclasses: #\n",
         m,
         counts::CALLS,
-    );
+    )?;
     print(
+        rt,
         b"class numbers that are not the lowest node: #\n",
         m,
         counts::SHOWN,
-    );
-    print(b"same: #\nbelow: #\nabove: #\napart: #\n", m, counts::SAME);
+    )?;
     print(
+        rt,
+        b"same: #\nbelow: #\nabove: #\napart: #\n",
+        m,
+        counts::SAME,
+    )?;
+    print(
+        rt,
         b"refused 2: #\nrefused 3: #\nrefused 4: #\nrefused 5: #\nrefused 6: #\nrefused 7: #\n",
         m,
         2,
-    );
+    )?;
     print(
+        rt,
         b"refused 10: #\nrefused 11: #\nrefused 12: #\nrefused 13: #\n",
         m,
         10,
-    );
-    print(b"refused 18: #\n", m, 18);
+    )?;
+    print(rt, b"refused 18: #\n", m, 18)?;
     print(
+        rt,
         b"proofs checked: #\ntheir lines: #\nrandom lines passed: #\ndamaged proofs passed: #\ndamaged proofs refused: #\n",
         m,
         counts::PROOFS,
-    );
+    )?;
     print(
+        rt,
         b"claims of damaged proofs, all true: #\ncomparisons that agreed: #\nmismatches: #\n",
         m,
         counts::OTHER_CLAIMS,
-    );
+    )
 }
 
-fn main() {
+fn main(rt: HostRuntime) -> io::Result<()> {
     let mut m = [0usize; 16384];
     let mut proof = [165u8; 65600];
     put(&mut m, test_tools::STATE, 88172645463325252);
     rounds(&mut m, &mut proof);
-    show(&m);
+    show(&rt, &m)
 }

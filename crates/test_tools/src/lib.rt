@@ -5,32 +5,34 @@ pub mod bytes; // buffers
 pub mod replies; // replies as numbers
 pub mod workspaces; // made, and held against the book
 
+use std::io;
 use test_solver::numbers::{add, get, put};
 
 // One byte of a form: tells how many numbers it took.
-fn print_at(form: &[u8], i: usize, x: usize) -> usize {
+fn print_at(rt: &impl Print, form: &[u8], i: usize, x: usize) -> io::Result<usize> {
     if test_solver::numbers::byte(form, i) == 35 {
-        io::print_decimal(1, x as u64);
-        return 1;
+        print!(rt; "{x}")?;
+        return Ok(1);
     }
-    io::write_all(1, bytes::part(form, i, std::num::wrapping_add_usize(i, 1)));
-    0
+    rt.write_all(bytes::part(form, i, std::num::wrapping_add_usize(i, 1)))?;
+    Ok(0)
 }
 
 // The form, with the numbers from place `at` on for its `#`.
-pub fn print(form: &[u8], numbers: &[usize], at: usize) {
+pub fn print(rt: &impl Print, form: &[u8], numbers: &[usize], at: usize) -> io::Result<()> {
     let mut k = at;
     let mut i: usize = 0;
     while i < form.len() {
-        let took = print_at(form, i, get(numbers, k));
+        let took = print_at(rt, form, i, get(numbers, k))?;
         k = std::num::wrapping_add_usize(k, took);
         i += 1;
     }
+    Ok(())
 }
 
-pub fn say(form: &[u8], x: usize) {
+pub fn say(rt: &impl Print, form: &[u8], x: usize) -> io::Result<()> {
     let numbers: [usize; 1] = [x];
-    print(form, &numbers, 0);
+    print(rt, form, &numbers, 0)
 }
 
 // Counted at place `at`, or, where it isn't so, at place `otherwise`.

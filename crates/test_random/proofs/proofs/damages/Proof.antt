@@ -1,7 +1,7 @@
 -- `test_random::proofs::damages` is safe and ends.
 use Rattle.std.proofs.Common.{◌≡◌, ◌-◌, length, rules}
-use Rattle.test_random.proofs.proofs.proofs.damages.Statement.{statement}
-use Rattle.test_random.proofs.proofs.proofs.damages.Tie as tie
+use Rattle.test_random.proofs.proofs.damages.Statement.{statement}
+use Rattle.test_random.proofs.proofs.damages.Tie as tie
 
 abbrev invariant-loop : tie.invariant-loop
 invariant-loop w m₀ proof₀ n x times i₀ m proof i = (length m ≡ length m₀) × (length proof ≡ length proof₀)

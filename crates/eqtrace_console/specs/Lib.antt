@@ -1,0 +1,2 @@
+-- Answers written for an input.
+pub mod Console
