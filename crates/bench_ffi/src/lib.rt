@@ -36,7 +36,7 @@ pub extern "C" fn ffi_shaped<'a>(
 
 // How settling ended: how many entries the trace has, and whether in a clash, of which two nodes.
 #[repr(C)]
-#[derive(Drop)]
+#[derive(Clone, Copy)]
 pub struct Ending {
     pub steps: usize,
     pub clash: bool,

@@ -6,7 +6,7 @@ ghost use Rattle.eqtrace_answers.specs.Text.{decimal, spaced};
 ghost use Rattle.eqtrace_answers.specs.Puts.{Puts, DigitsShow, meant, Says, Small};
 
 // What the program says of one order; the cited names stand beside it.
-#[derive(Drop)]
+#[derive(Clone, Copy)]
 pub enum Answer {
     Node(u8),
     Held(u16),
@@ -20,7 +20,7 @@ pub enum Answer {
 }
 
 // The digits of a number: the last bytes, from `from` on.
-#[derive(Drop)]
+#[derive(Clone, Copy)]
 pub struct Digits {
     pub bytes: [u8; 5],
     pub from: usize,

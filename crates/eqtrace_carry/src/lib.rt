@@ -17,7 +17,7 @@ use eqtrace_orders::Command;
 use unifier::{Comparison, Outcome, Reply, Workspace};
 
 // The workspace after an order, how many bytes its answer has, and whether it was refused.
-#[derive(Drop)]
+#[derive(Clone, Copy)]
 pub struct Carried {
     pub workspace: Workspace,
     pub length: usize,

@@ -7,7 +7,7 @@ ghost use Rattle.eqtrace_orders.specs.Scan.{Scans, in_word, IsNumber, KeepsOne, 
 ghost use Rattle.eqtrace_orders.specs.Parse.{Parses, ByLetter};
 
 // A number, and the place after its last digit; or that no number stands there.
-#[derive(Drop)]
+#[derive(Clone, Copy)]
 pub enum Scanned {
     Number(u16, usize),
     Bad,
@@ -79,7 +79,7 @@ fn number(line: &[u8], at: usize) -> Scanned
 }
 
 // The numbers of an order: how many there are, and the first six.
-#[derive(Drop)]
+#[derive(Clone, Copy)]
 pub struct Numbers {
     pub ok: bool,
     pub count: usize,
@@ -128,7 +128,7 @@ fn collect(line: &[u8], from: usize) -> Numbers
 }
 
 // An order, or that it can't be read. A functor node has its symbol and how many of the children beside it count.
-#[derive(Drop)]
+#[derive(Clone, Copy)]
 pub enum Command {
     Unreadable,
     Variable,
@@ -139,7 +139,7 @@ pub enum Command {
 }
 
 // Five children are enough to be refused.
-#[derive(Drop)]
+#[derive(Clone, Copy)]
 pub struct Parsed {
     pub command: Command,
     pub children: [u16; 5],

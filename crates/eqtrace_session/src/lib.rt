@@ -15,7 +15,7 @@ const ORDERS: u32 = 65536; // of an input: each has at least its line break, but
 
 // A place in an input: whether to keep going after a refusal, the workspace after the orders before it, where the next one begins, and its
 // number. Only `begin` and `step` make one.
-#[derive(Drop)]
+#[derive(Clone, Copy)]
 pub struct Cursor {
     keep: bool,
     workspace: Workspace,
@@ -24,7 +24,7 @@ pub struct Cursor {
 }
 
 // What is left of an input at a cursor.
-#[derive(Drop)]
+#[derive(Clone, Copy)]
 enum Left {
     Nothing,
     TooLong,
@@ -32,7 +32,7 @@ enum Left {
 }
 
 // The cursor behind a step, and how many bytes of the lent buffer the step's text has: 0 where nothing was left.
-#[derive(Drop)]
+#[derive(Clone, Copy)]
 pub struct Stepped {
     pub cursor: Cursor,
     pub length: usize,

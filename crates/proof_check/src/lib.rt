@@ -18,7 +18,7 @@ use proof_lines::Decoded;
 use proof_rules::{Claimed, Labels, OfferAsked};
 
 // How the walk over the lines ends: in the last one's claim (kind, start, end), or at the first that breaks its rule.
-#[derive(Drop)]
+#[derive(Clone, Copy)]
 pub enum Walked {
     Ends(u8, u8, u8),
     Breaks(usize),
@@ -34,7 +34,7 @@ pub enum GoalAsked {
 }
 
 // The lines pass, a refusal's number, or refusal 12 with the line.
-#[derive(Drop)]
+#[derive(Clone, Copy)]
 pub enum Judged {
     Passes,
     Refused(u8),

@@ -6,13 +6,13 @@ ghost use Rattle.std.proofs.Math.Seq.{paste};
 ghost use Rattle.proof_file.specs.File.{is_marked, is_counted, file_refusal, lines_in, header_of};
 ghost use Rattle.proof_file.specs.Promises.{read_reply, Writes};
 
-#[derive(Drop)]
+#[derive(Clone, Copy)]
 pub enum WriteReply {
     Wrote(usize),
     Refused(u8),
 }
 
-#[derive(Drop)]
+#[derive(Clone, Copy)]
 pub enum ReadReply {
     Readable,
     Refused(u8),

@@ -17,7 +17,7 @@ pub struct Fields {
 }
 
 // What stands at a line number.
-#[derive(Drop)]
+#[derive(Clone, Copy)]
 pub enum Decoded {
     // A whole line whose reserved bytes are zero.
     Whole(Fields),

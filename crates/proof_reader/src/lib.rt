@@ -7,14 +7,14 @@ ghost use Rattle.proof_reader.specs.Read.{step_at, stepped_to};
 
 use proof_lines::Decoded;
 
-#[derive(Drop)]
+#[derive(Clone, Copy)]
 pub struct LineReader<'a> {
     pub lines: &'a [u8],
     pub at: usize,
 }
 
 // A line's fields as they stand, or that no whole line is left.
-#[derive(Drop)]
+#[derive(Clone, Copy)]
 pub enum NextLine {
     Fields {
         rule: u8,
@@ -27,14 +27,14 @@ pub enum NextLine {
 }
 
 // The line, and the number of the one to come.
-#[derive(Drop)]
+#[derive(Clone, Copy)]
 pub struct Found {
     pub line: NextLine,
     pub at: usize,
 }
 
 // The line, and the reader moved on.
-#[derive(Drop)]
+#[derive(Clone, Copy)]
 pub struct ReaderStep<'a> {
     pub reader: LineReader<'a>,
     pub line: NextLine,

@@ -12,14 +12,14 @@ ghost use Rattle.proof_rules.specs.Rules.{offer_of, offer_below, claimed, placed
 ghost use Rattle.store.specs.declared.Terms.{Terms};
 
 // The child at a place, or that there is none.
-#[derive(Drop)]
+#[derive(Clone, Copy)]
 pub enum Place {
     At(u8),
     Nowhere,
 }
 
 // How the labels of two nodes compare: both have one, or one is missing.
-#[derive(Drop)]
+#[derive(Clone, Copy)]
 pub enum Labels {
     Equal,
     Differ,
@@ -27,7 +27,7 @@ pub enum Labels {
 }
 
 // What a line claims, by its kind, start and end, or that it breaks its rule.
-#[derive(Drop)]
+#[derive(Clone, Copy)]
 pub enum Claimed {
     Claims(u8, u8, u8),
     Breaks,

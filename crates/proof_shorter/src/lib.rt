@@ -11,7 +11,7 @@ ghost use Rattle.proof_shorter.specs.Promises.{ChoosesLater, Chooses, Hands};
 use unifier::{CheckReply, GoalAsked, OfferAsked, Workspace};
 
 // Which of two lists, or a refusal's number: 11 and 13 with the list, 1 or 2; 12 with the list and the line.
-#[derive(Drop)]
+#[derive(Clone, Copy)]
 pub enum ShorterReply {
     First,
     Second,

@@ -13,7 +13,7 @@ ghost use Rattle.store.specs.declared.Terms.{Terms};
 use solve_heights::Heights;
 
 // Clash has its two functor nodes; where there is a cycle, `solve_reach` finds it.
-#[derive(Drop)]
+#[derive(Clone, Copy)]
 pub enum Finding {
     Solved,
     Clash(u8, u8),
@@ -21,7 +21,7 @@ pub enum Finding {
 }
 
 // Node u is in the class with root `table[u]` and has, where the verdict is Solved, the height of that class; the trace has `steps` entries.
-#[derive(Drop)]
+#[derive(Clone, Copy)]
 pub struct SolveResult {
     pub table: [u8; 64],
     pub heights: Heights,

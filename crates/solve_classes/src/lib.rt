@@ -72,7 +72,7 @@ pub fn members(table: [u8; 64], c: u8) -> u64
 }
 
 // A class's number and size, as the class reply has them.
-#[derive(Drop)]
+#[derive(Clone, Copy)]
 pub struct Figures {
     pub number: u8,
     pub size: u8,

@@ -11,7 +11,7 @@ ghost use Rattle.solve_closure.specs.Settled.{Given, ArraysHold, RoundsEnded, Se
 ghost use Rattle.store.specs.declared.Terms.{Terms};
 
 // What a visit, a round or a run of rounds comes to; where there is a clash, `left` and `right` are its nodes.
-#[derive(Drop)]
+#[derive(Clone, Copy)]
 pub struct Settling {
     pub table: [u8; 64],
     pub steps: usize,

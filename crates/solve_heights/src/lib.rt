@@ -180,7 +180,7 @@ fn rounds(
 }
 
 // The heights of the classes, `NO_HEIGHT` for those that are left, and how many are left.
-#[derive(Drop)]
+#[derive(Clone, Copy)]
 pub struct Heights {
     pub height: [u8; 64],
     pub left: u8,

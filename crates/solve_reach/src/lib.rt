@@ -16,7 +16,7 @@ use solve_heights::Heights;
 
 // How each class below a node was reached, by its root: the parent of the step down into it, the place, the child there, and a level
 // that falls on the way up. Level 0: not reached.
-#[derive(Drop)]
+#[derive(Clone, Copy)]
 pub struct Search {
     pub parent: [u8; 64],
     pub place: [u8; 64],
@@ -25,7 +25,7 @@ pub struct Search {
 }
 
 // A node, and the search from it that led back to its class.
-#[derive(Drop)]
+#[derive(Clone, Copy)]
 pub struct Circle {
     pub node: u8,
     pub search: Search,

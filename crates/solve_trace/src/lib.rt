@@ -10,7 +10,7 @@ ghost use Rattle.solve_trace.specs.Nodes.{EquationEnds};
 ghost use Rattle.solve_trace.specs.Steps.{TraceFits, Joins, PairsJoined, Places};
 
 // A class table, and how many entries its trace has.
-#[derive(Drop)]
+#[derive(Clone, Copy)]
 pub struct Progress {
     pub table: [u8; 64],
     pub steps: usize,

@@ -13,7 +13,7 @@ ghost use Rattle.store.specs.Heads.{Meets};
 // The declared nodes: the first `count` places of each array are used. Kind 0 is a variable, 1 a functor node. The children of
 // node u stand at places 4 u to 4 u + 3.
 #[repr(C)]
-#[derive(Drop)]
+#[derive(Clone, Copy)]
 pub struct Terms {
     pub count: usize,
     pub kind: [u8; 64],
@@ -24,7 +24,7 @@ pub struct Terms {
 
 // The held equations, in the order taken.
 #[repr(C)]
-#[derive(Drop)]
+#[derive(Clone, Copy)]
 pub struct Equations {
     pub count: usize,
     pub name: [u16; 256],
@@ -33,7 +33,7 @@ pub struct Equations {
 }
 
 // What a removal gives back: whether the name was held, and the equations.
-#[derive(Drop)]
+#[derive(Clone, Copy)]
 pub struct Removed {
     pub found: bool,
     pub equations: Equations,

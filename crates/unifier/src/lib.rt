@@ -23,14 +23,14 @@ use unifier_examine::Examined;
 
 // The layout is C's, so that a host hands over the value as it is.
 #[repr(C)]
-#[derive(Drop)]
+#[derive(Clone, Copy)]
 pub struct Workspace {
     pub terms: Terms,
     pub equations: Equations,
 }
 
 // What declare, equate and withdraw reply. A clash and a cycle, refusals 8 and 9, have the number of proof lines.
-#[derive(Drop)]
+#[derive(Clone, Copy)]
 pub enum Reply {
     Node(u8),
     Held,
@@ -40,14 +40,14 @@ pub enum Reply {
     Cycle(u16),
 }
 
-#[derive(Drop)]
+#[derive(Clone, Copy)]
 pub struct Outcome {
     pub reply: Reply,
     pub workspace: Workspace,
 }
 
 // How two nodes stand, with the number of proof lines.
-#[derive(Drop)]
+#[derive(Clone, Copy)]
 pub enum Comparison {
     Same(u16),
     Below(u16),
@@ -56,34 +56,34 @@ pub enum Comparison {
     Refused(u8),
 }
 
-#[derive(Drop)]
+#[derive(Clone, Copy)]
 pub struct Compared {
     pub reply: Comparison,
     pub workspace: Workspace,
 }
 
 // A class number, which is the class's lowest functor node or, where it has none, its lowest variable; and how many nodes the class has.
-#[derive(Drop)]
+#[derive(Clone, Copy)]
 pub enum ClassReply {
     Class(u8, u8),
     Refused(u8),
 }
 
-#[derive(Drop)]
+#[derive(Clone, Copy)]
 pub struct Classified {
     pub reply: ClassReply,
     pub workspace: Workspace,
 }
 
 // Refusal 12 has the line.
-#[derive(Drop)]
+#[derive(Clone, Copy)]
 pub enum CheckReply {
     Passed,
     Refused(u8),
     Broken(u16),
 }
 
-#[derive(Drop)]
+#[derive(Clone, Copy)]
 pub struct Checked {
     pub reply: CheckReply,
     pub workspace: Workspace,

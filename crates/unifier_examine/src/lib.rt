@@ -12,7 +12,7 @@ ghost use Rattle.store.specs.declared.Equations.{Equations};
 use solve::Finding;
 
 // Where the value is a workspace, the class table of its held equations, and how many entries its trace has.
-#[derive(Drop)]
+#[derive(Clone, Copy)]
 pub struct Examined {
     pub valid: bool,
     pub table: [u8; 64],

@@ -24,7 +24,7 @@ use solve_reach::Search;
 use store::{Equations, Terms};
 
 // How two nodes stand, with the number of lines.
-#[derive(Drop)]
+#[derive(Clone, Copy)]
 pub enum Standing {
     Same(u16),
     Below(u16),

@@ -9,7 +9,7 @@ ghost use Rattle.write_needed.specs.Entries.{end_at, AllInRange, Together};
 ghost use Rattle.write_needed.specs.Trim.{PairsTogether, Rejoins, Among, Trimmed};
 
 // A trace: its first `steps` entries.
-#[derive(Drop)]
+#[derive(Clone, Copy)]
 pub struct Needed {
     pub trace: [u16; 64],
     pub steps: usize,
