@@ -9,12 +9,12 @@ decide-o-requires c =
 
 pub returns-in-Solved : goal.returns-in-Solved
 returns-in-Solved c =
-    solved _ _ _ _ _ _ _ (c.decide-o.ensures _ (holds_state _ _)) c.requires.shape c.enum_told-1.given.1
+    solved _ _ _ _ _ _ _ (c.decide-o.ensures _ (holds_state _ _)) c.requires.shape c.in-Solved.is
 
 pub returns-in-Clash : goal.returns-in-Clash
 returns-in-Clash c =
-    clashing _ _ _ _ _ _ _ (c.decide-o.ensures _ (holds_state _ _)) _ _ c.enum_told-in-Clash-1.given.1
+    clashing _ _ _ _ _ _ _ (c.decide-o.ensures _ (holds_state _ _)) _ _ c.in-Clash.is
 
 pub returns-in-Cycle : goal.returns-in-Cycle
 returns-in-Cycle c =
-    circling _ _ _ _ _ _ _ (c.decide-o.ensures _ (holds_state _ _)) c.enum_told-in-Cycle-1.given.1
+    circling _ _ _ _ _ _ _ (c.decide-o.ensures _ (holds_state _ _)) c.in-Cycle.is
