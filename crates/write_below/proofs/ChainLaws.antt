@@ -6,7 +6,7 @@ use native.Mathlib.Omega.{arith}
 use native.Mathlib.Numerals.{add-one}
 use lib.ListN.{get_or}
 use Rattle.graph.specs.Lines.{same}
-use Rattle.solve_classes.specs.Table.{class, Table}
+use Rattle.solve_classes.specs.Table.{class}
 use Rattle.proof_lines.specs.Codec.{line, Put}
 use Rattle.proof_lines.specs.Proof.{Kept}
 use Rattle.write_runs.specs.Written.{ClaimAt, LinesClaim}
