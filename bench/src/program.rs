@@ -78,9 +78,9 @@ pub fn rows() {
     let took = best(|| call(&o, &mut buf));
     println!("orders a second, over {} equations, questions and withdrawals on 64 nodes", o.list.len());
     println!("  {:<56} {:>10.0}", "the calls alone", o.list.len() as f64 / took);
-    let path = Path::new(env!("CARGO_MANIFEST_DIR")).join("../target/bin/eqtrace");
+    let path = Path::new(env!("CARGO_MANIFEST_DIR")).join("../crates/eqtrace/out/eqtrace");
     if !path.exists() {
-        println!("  {:<56} {:>10}", "the program eqtrace (not built: rt check eqtrace)", "-");
+        println!("  {:<56} {:>10}", "the program eqtrace (not built: bin/eqtrace does)", "-");
         return;
     }
     let took = best(|| run(&path, o.text.as_bytes())) - best(|| run(&path, b""));
