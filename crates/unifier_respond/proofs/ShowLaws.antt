@@ -1,7 +1,7 @@
 -- From what the writer promises of lines to proofs of goals, where the arrays have the right shape.
 use mathlib.Core.Path.{refl}
 use mathlib.Core.List.{List}
-use Prim.Native.Nat.{ℕ, ◌≤◌, ◌<◌}
+use Prim.Native.Nat.{ℕ, ◌<◌}
 use native.Mathlib.Omega.{arith}
 use lib.ListN.{take}
 use Rattle.graph.specs.State.{State}
