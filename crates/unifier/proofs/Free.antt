@@ -3,6 +3,7 @@ use mathlib.Core.List.{List}
 use Prim.Native.Nat.{ℕ}
 use contract.Lifetimes.{Lfts}
 use denote.Ref.{Bor}
+use denote.MutBor.{MutBor}
 use Rattle.unifier.specs.declared.Workspace.{Workspace}
 use Rattle.proof_rules.specs.declared.OfferAsked.{OfferAsked}
 use Rattle.proof_check.specs.declared.GoalAsked.{GoalAsked}
@@ -21,9 +22,9 @@ pub record Free : Type 0 where
   pub declares_variable : (w : Workspace) → declare-variable.Pre tt (w, tt)
   pub declares_functor : (κs : Lfts 1) (w : Workspace) (f : ℕ) (cs : Bor (List ℕ)) → declare-functor.Pre κs (w, (f, (cs, tt)))
   pub withdraws : (w : Workspace) (n : ℕ) → withdraw.Pre tt (w, (n, tt))
-  pub equates : (κs : Lfts 1) (w : Workspace) (n l r : ℕ) (lent : Bor (List ℕ)) → equate.Pre κs (w, (n, (l, (r, (lent, tt)))))
+  pub equates : (κs : Lfts 1) (w : Workspace) (n l r : ℕ) (lent : MutBor (List ℕ)) → equate.Pre κs (w, (n, (l, (r, (lent, tt)))))
   pub clears : (w : Workspace) → clear.Pre tt (w, tt)
-  pub compares : (κs : Lfts 1) (w : Workspace) (u v : ℕ) (lent : Bor (List ℕ)) → compare.Pre κs (w, (u, (v, (lent, tt))))
+  pub compares : (κs : Lfts 1) (w : Workspace) (u v : ℕ) (lent : MutBor (List ℕ)) → compare.Pre κs (w, (u, (v, (lent, tt))))
   pub classifies : (w : Workspace) (u : ℕ) → class_of.Pre tt (w, (u, tt))
   pub checks : (κs : Lfts 1) (w : Workspace) (f : OfferAsked) (lines : Bor (List ℕ)) (g : GoalAsked) → check.Pre κs (w, (f, (lines, (g, tt))))
 
