@@ -3,12 +3,13 @@ use mathlib.Core.List.{List}
 use Prim.Native.Nat.{ℕ}
 use contract.Lifetimes.{Lfts}
 use denote.Ref.{Bor}
+use denote.MutBor.{MutBor}
 use Rattle.proof_file.proofs.write.Reads as write
 use Rattle.proof_file.proofs.read_reply.Reads as read-reply
 use Rattle.proof_file.proofs.read.Reads as read
 
 pub record Free : Type 0 where
-  pub writes : (κs : Lfts 2) (lines out : Bor (List ℕ)) → write.Pre κs (lines, (out, tt))
+  pub writes : (κs : Lfts 2) (lines : Bor (List ℕ)) (out : MutBor (List ℕ)) → write.Pre κs (lines, (out, tt))
   pub replies : (κs : Lfts 1) (file : Bor (List ℕ)) → read-reply.Pre κs (file, tt)
   pub reads : (κs : Lfts 1) (file : Bor (List ℕ)) → read.Pre κs (file, tt)
 
