@@ -181,6 +181,7 @@ module _ (w : Workspace) (x y : ℕ) (before after : List ℕ) where
   stands_counted (stands.Below n) (compare.below m p q) = proof_counted n q
   stands_counted (stands.Above n) (compare.above m k p q) = proof_counted n q
   stands_counted stands.Apart (compare.apart m k j q) = refl
+  stands_counted (stands.Refused _) h = elim h [ ]
 
   replies_counted : (o : Option ℕ) (r : Comparison) → compare.Replies o (state_of w) x y before after r → counted r ≡ true
   replies_counted none r h = stands_counted r h
