@@ -50,6 +50,7 @@ stated_stance w u v before after (stands.Same n) a (compare.same p q) h = rw h.a
 stated_stance w u v before after (stands.Below n) a (compare.below m p q) h = rw h.answer (told.lies_below m p)
 stated_stance w u v before after (stands.Above n) a (compare.above m k p q) h = rw h.answer (told.lies_above m k p)
 stated_stance w u v before after stands.Apart a (compare.apart m k j q) h = rw h (told.is_apart m k j)
+stated_stance w u v before after (stands.Refused _) a s h = elim s [ ]
 
 stated_compares : (o : Option ℕ) (w : State) (u v : ℕ) (before after : List ℕ) (r : Comparison) (a : Output) → compare.Replies o w u v before after r → Stated after r a
     → QueryReplies o w u v (forget a)

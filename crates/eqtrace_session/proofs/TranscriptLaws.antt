@@ -22,7 +22,7 @@ use Rattle.eqtrace_script.proofs.ScriptLaws.{keep_length, place_on}
 use Rattle.eqtrace_session.specs.Program.{forget, Session}
 use Rattle.eqtrace_session.specs.Program as told
 use Rattle.eqtrace_session.specs.Transcript.{texts_of, script_in, too_long, AnswersBy, AnswersTo, ToldBy, Printed, Finished}
-use Rattle.eqtrace_session.specs.Steps.{cursor_at, beginning, left_of, TooLong, StepsBy, Steps, Run, begun, stepped, Transcript}
+use Rattle.eqtrace_session.specs.Steps.{cursor_at, beginning, left_of, StepsBy, Steps, Run, begun, stepped, Transcript}
 use Rattle.eqtrace_session.specs.declared.Cursor.{Cursor}
 use Rattle.eqtrace_session.specs.declared.Left.{Left}
 use Rattle.eqtrace_session.specs.declared.Left.TheVariants as left
