@@ -124,6 +124,9 @@ away w bad = record {
 -- ---- a refusal leaves all
 
 refused_leaves : (s : State) (c : book.Call) (k : ℕ) (r : Reply) → Refuses r → said r ≡ (book.answer s c k).reply → (book.answer s c k).state ≡ s
+refused_leaves s c k (Node i) h e = elim h [ ]
+refused_leaves s c k Held h e = elim h [ ]
+refused_leaves s c k Gone h e = elim h [ ]
 refused_leaves s c k (Refused j) h e = (refused_is s c j k e).1
 refused_leaves s c k (Clash n) h e = (refused_is s c 8 k e).1
 refused_leaves s c k (Cycle n) h e = (refused_is s c 9 k e).1
@@ -225,6 +228,7 @@ stance_of s u v (comparison.Same n) (stance.same p a) = is_same p
 stance_of s u v (comparison.Below n) (stance.below x p a) = lies_below x p
 stance_of s u v (comparison.Above n) (stance.above x y p a) = lies_above x y p
 stance_of s u v comparison.Apart (stance.apart x y z a) = is_apart x y z
+stance_of s u v (comparison.Refused _) h = elim h [ ]
 
 one_comparison : (o : Option ℕ) (s : State) (u v : ℕ) (before after left : List ℕ) (r q : Comparison) → Replies o s u v before after r → Replies o s u v before left q → uncounted_stance r ≡ uncounted_stance q
 one_comparison none s u v before after left r q p h = stance_unique (stance_of s u v r p) (stance_of s u v q h)

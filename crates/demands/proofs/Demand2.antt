@@ -88,6 +88,7 @@ module _ (w : Workspace) (u v : ℕ) (before after : List ℕ) (ok : Valid w) (k
     above = (λ x. absurd x, λ b. f b);
     proved = tt;
   }
+  exact (says.Refused _) h = elim h [ ]
 
 -- what the call passes, the checker's own answer passes
 answered : (s : State) (o : Option Equation) (g : Goal) (bytes : List ℕ) → passed ≡ check_reply s o g bytes → answer_to (with_offer s o) g bytes ≡ passed

@@ -9,6 +9,7 @@
 use Rattle.std.specs.Prelude.{◌≡◌, List, ℕ, ◌/◌, length}
 use contract.Lifetimes.{Lfts}
 use Rattle.std.specs.Borrow.{Bor}
+use denote.MutBor.{MutBor}
 use Rattle.graph.specs.State.{equation_of}
 use Rattle.unifier.specs.Views.{fresh_workspace}
 use Rattle.proof_rules.specs.Rules.{offer_of}
@@ -62,19 +63,19 @@ pub record Tied : Type 0 where
   pub declares_functor : (κs : Lfts 1) (w : Workspace) (f : ℕ) (cs : Bor (List ℕ)) (o : Outcome) (x : Workspace) (y : ℕ) (z : Bor (List ℕ))
       → declare-functor.Post κs (w, (f, (cs, tt))) o (x, (y, (z, tt))) → Ran w (declare_functor f cs.now) (replied o)
   pub withdraws : (w : Workspace) (n : ℕ) (o : Outcome) (x : Workspace) (y : ℕ) → withdraw.Post tt (w, (n, tt)) o (x, (y, tt)) → Ran w (history.withdraw n) (replied o)
-  pub offers : (κs : Lfts 1) (w : Workspace) (n l r : ℕ) (lent : Bor (List ℕ)) (o : Outcome) (x : Workspace) (n' l' r' : ℕ) (left : Bor (List ℕ))
+  pub offers : (κs : Lfts 1) (w : Workspace) (n l r : ℕ) (lent : MutBor (List ℕ)) (o : Outcome) (x : Workspace) (n' l' r' : ℕ) (left : MutBor (List ℕ))
       → equate-call.Post κs (w, (n, (l, (r, (lent, tt))))) o (x, (n', (l', (r', (left, tt))))) → Ran w (equate (equation_of n l r) lent.now) (wrote o left.now)
   pub clears : (w v x : Workspace) → clear.Post tt (w, tt) v (x, tt) → Ran w history.clear (cleared v)
 
 pub record Beside : Type 0 where
-  pub compares : (κs : Lfts 1) (w : Workspace) (u v : ℕ) (lent : Bor (List ℕ)) (r : Compared) (x : Workspace) (u' v' : ℕ) (left : Bor (List ℕ))
+  pub compares : (κs : Lfts 1) (w : Workspace) (u v : ℕ) (lent : MutBor (List ℕ)) (r : Compared) (x : Workspace) (u' v' : ℕ) (left : MutBor (List ℕ))
       → compare.Post κs (w, (u, (v, (lent, tt)))) r (x, (u', (v', (left, tt)))) → Compares w u v lent.now left.now r
   pub classifies : (w : Workspace) (u : ℕ) (r : Classified) (x : Workspace) (y : ℕ) → class_of.Post tt (w, (u, tt)) r (x, (y, tt)) → Classifies w u r
   pub checks : (κs : Lfts 1) (w : Workspace) (f : OfferAsked) (lines : Bor (List ℕ)) (g : GoalAsked) (r : Checked) (x : Workspace) (y : OfferAsked) (z : Bor (List ℕ)) (h : GoalAsked)
       → check.Post κs (w, (f, (lines, (g, tt)))) r (x, (y, (z, (h, tt)))) → Checks w (offer_of f) (goal_of g) lines.now r
 
 pub record Files : Type 0 where
-  pub writes : (κs : Lfts 2) (lines out : Bor (List ℕ)) (r : WriteReply) (x left : Bor (List ℕ)) → file-write.Post κs (lines, (out, tt)) r (x, (left, tt))
+  pub writes : (κs : Lfts 2) (lines : Bor (List ℕ)) (out : MutBor (List ℕ)) (r : WriteReply) (x : Bor (List ℕ)) (left : MutBor (List ℕ)) → file-write.Post κs (lines, (out, tt)) r (x, (left, tt))
       → Writes lines.now out.now left.now r
   pub replies : (κs : Lfts 1) (file : Bor (List ℕ)) (r : ReadReply) (x : Bor (List ℕ)) → file-reply.Post κs (file, tt) r (x, tt) → r ≡ read_reply (file_refusal file.now)
   pub reads : (κs : Lfts 1) (file r x : Bor (List ℕ)) → file-read.Post κs (file, tt) r (x, tt) → r.now ≡ lines_in file.now
@@ -88,5 +89,5 @@ pub record Files : Type 0 where
 pub record Stepwise : Type 0 where
   pub begins : (κs : Lfts 1) (input : Bor (List ℕ)) (c : Cursor) (x : Bor (List ℕ)) → begin.Post κs (input, tt) c (x, tt) → c ≡ beginning input.now
   pub ends : (c : Cursor) (w : Workspace) (x : Cursor) → workspace.Post tt (c, tt) w (x, tt) → w ≡ c.workspace
-  pub steps : (κs : Lfts 4) (c : Cursor) (input proof names out : Bor (List ℕ)) (r : Stepped) (x : Cursor) (y proof' names' out' : Bor (List ℕ))
+  pub steps : (κs : Lfts 4) (c : Cursor) (input : Bor (List ℕ)) (proof names out : MutBor (List ℕ)) (r : Stepped) (x : Cursor) (y : Bor (List ℕ)) (proof' names' out' : MutBor (List ℕ))
       → step.Post κs (c, (input, (proof, (names, (out, tt))))) r (x, (y, (proof', (names', (out', tt))))) → Steps c input.now proof.now proof'.now out.now out'.now r
