@@ -1,7 +1,6 @@
 -- What is written for an input.
 --   Answers   known bytes of a writer grow by what `Printed` says of an input
-use Rattle.std.specs.Prelude.{List, ℕ}
-use Rattle.core.specs.declared.option.Option.{Option}
+use Rattle.std.specs.Prelude.{List, ℕ, Option}
 use Rattle.std.specs.Io.KnownBytes.{Appends}
 use Rattle.unifier.specs.declared.Workspace.{Workspace}
 use Rattle.eqtrace_session.specs.Transcript.{Printed}

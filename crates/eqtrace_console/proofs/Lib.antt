@@ -1,0 +1,2 @@
+-- Laws of what is written for an input.
+pub mod WrittenLaws
