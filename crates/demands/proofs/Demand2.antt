@@ -10,7 +10,7 @@ use lib.Dec.{ltb}
 use borrow.Author.Tests.{ltb-false}
 use Rattle.graph.specs.Limits.{buffer_bytes}
 use Rattle.graph.specs.State.{State, Equation, with_offer}
-use Rattle.graph.specs.Closure.{Same, Below, symmetry, below_same, below_below}
+use Rattle.graph.specs.Closure.{Below, symmetry, below_same, below_below}
 use Rattle.graph.specs.Goals.{Goal, same_goal, below_goal, passed, refused}
 use Rattle.graph.proofs.SolutionLaws.{solution_no_cycle}
 use Rattle.proof_lines.specs.Proof.{ProofIn}

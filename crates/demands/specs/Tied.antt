@@ -8,8 +8,7 @@
 --   Stepwise an input's orders: what the theorem `Transcript` of eqtrace_session is about
 use Rattle.std.specs.Prelude.{◌≡◌, List, ℕ, ◌/◌, length}
 use contract.Lifetimes.{Lfts}
-use Rattle.std.specs.Borrow.{Bor}
-use denote.MutBor.{MutBor}
+use Rattle.std.specs.Borrow.{Bor, MutBor}
 use Rattle.graph.specs.State.{equation_of}
 use Rattle.unifier.specs.Views.{fresh_workspace}
 use Rattle.proof_rules.specs.Rules.{offer_of}

@@ -17,8 +17,8 @@ loop-i-preserved c =
     let f = in_class c.args.table c.args.c in (
       search rules,
       elim c.if-table-i.branch [
-        then-table-i w ↦ set_shifted f c.loop-i.i w.s-is (omega arith) c.loop-i.invariant.1 c.loop-i-test.true (eq-eqb _ _ w.if-table-i.true)
-      | else-table-i w ↦ w.s-is ∙ c.loop-i.invariant.1 ∙ set_out f c.loop-i.i (ne_eqb _ _ w.if-table-i.false)
+        | then-table-i w ↦ set_shifted f c.loop-i.i w.s-is (omega arith) c.loop-i.invariant.1 c.loop-i-test.true (eq-eqb _ _ w.if-table-i.true)
+        | else-table-i w ↦ w.s-is ∙ c.loop-i.invariant.1 ∙ set_out f c.loop-i.i (ne_eqb _ _ w.if-table-i.false)
       ],
     )
 

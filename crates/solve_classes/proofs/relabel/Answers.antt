@@ -15,8 +15,8 @@ pub loop-x-preserved : goal.loop-x-preserved
 loop-x-preserved c =
     let m = c.loop-x.invariant.2 in
     elim c.if-out-x.branch [
-      then-out-x w ↦ (search rules, search rules, rw w.out-is (mapped_set _ _ _ _ _ (omega arith) m (sym (rw (eq-eqb _ _ w.if-out-x.true)))))
-    | else-out-x w ↦ (search rules, search rules, rw w.out-is (mapped_skip _ _ _ _ m (rw (ne_eqb _ _ w.if-out-x.false))))
+      | then-out-x w ↦ (search rules, search rules, rw w.out-is (mapped_set _ _ _ _ _ (omega arith) m (sym (rw (eq-eqb _ _ w.if-out-x.true)))))
+      | else-out-x w ↦ (search rules, search rules, rw w.out-is (mapped_skip _ _ _ _ m (rw (ne_eqb _ _ w.if-out-x.false))))
     ]
 
 pub returns : goal.returns

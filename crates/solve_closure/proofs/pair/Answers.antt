@@ -17,15 +17,19 @@ join_children-p-requires c =
     -- what the test leaves
     let alike : Alike (terms c.args.n c.args.kind.now c.args.symbol.now c.args.arity.now c.args.child.now) c.args.u c.args.v = omega (arith, c.if-symbol-u.false) in
     let one = alike_arities _ F _ _ P.left P.right alike in
-    let places = c.wide.ensures in record { trace_fits = P.ready; u_bound = (
-          omega (arith, F.most, P.left.known),
-          omega (arith, F.most, P.right.known),
-          omega (arith, F.arities _ P.left.known, places),
-          P.joined,
-        ); by_index = λ k h. (
-          omega (arith, F.most, P.left.known, F.earlier _ k P.left.known (omega (arith, places))),
-          omega (arith, F.most, P.right.known, F.earlier _ k P.right.known (omega (arith, places, one))),
-        ) }
+    let places = c.wide.ensures in record {
+      trace_fits = P.ready;
+      u_bound = (
+        omega (arith, F.most, P.left.known),
+        omega (arith, F.most, P.right.known),
+        omega (arith, F.arities _ P.left.known, places),
+        P.joined,
+      );
+      by_index = λ k h. (
+        omega (arith, F.most, P.left.known, F.earlier _ k P.left.known (omega (arith, places))),
+        omega (arith, F.most, P.right.known, F.earlier _ k P.right.known (omega (arith, places, one))),
+      );
+    }
 
 pub returns : goal.returns
 returns c =

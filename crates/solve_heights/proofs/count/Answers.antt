@@ -34,8 +34,8 @@ loop-u-preserved c =
       search rules,
       counted_more _ _ _ _ _ _ _ c.loop-u.invariant.1 l c.wide-c.ensures refl
           (elim c.if-c-u.branch [
-            then-c-u b ↦ omega (arith, b.total-is, root_one c.args.table.now c.loop-u.u (sym c.wide-c.ensures ∙ b.if-c-u.true))
-          | else-c-u b ↦ omega (arith, b.total-is, root_none c.args.table.now c.loop-u.u (λ z. b.if-c-u.false (c.wide-c.ensures ∙ z)))
+            | then-c-u b ↦ omega (arith, b.total-is, root_one c.args.table.now c.loop-u.u (sym c.wide-c.ensures ∙ b.if-c-u.true))
+            | else-c-u b ↦ omega (arith, b.total-is, root_none c.args.table.now c.loop-u.u (λ z. b.if-c-u.false (c.wide-c.ensures ∙ z)))
           ]),
     )
 

@@ -43,11 +43,10 @@ returns-then-height-c c =
     })
 
 pub loop-j-preserved : goal.loop-j-preserved
-loop-j-preserved c =
-    (
-      search rules,
-      below_more _ _ c.loop-j.invariant.1 (λ q. c.if-height-c.false (sym (through c.args.table.now c.args.height.now c.wide-x.ensures c.wide-c.ensures) ∙ q)),
-    )
+loop-j-preserved c = (
+  search rules,
+  below_more _ _ c.loop-j.invariant.1 (λ q. c.if-height-c.false (sym (through c.args.table.now c.args.height.now c.wide-x.ensures c.wide-c.ensures) ∙ q)),
+)
 
 pub returns : goal.returns
 returns c = tells_not (λ S. c.loop-j.invariant.1 S.place (omega (arith, S.within, c.wide-k.ensures)) S.stays)

@@ -21,11 +21,15 @@ pub enter-r-requires : goal.enter-r-requires
 enter-r-requires c =
     let X = c.loop-j.invariant.1 in
     let N = c.idle.ensures.counts c.if-idle.false in
-    let l : c.loop-j.j < c.wide-k.result = c.loop-j-test.true in record { table = c.requires.table; p_bound = (
-          omega (arith, c.requires.formed.most, c.requires.u_lt_n.1),
-          omega (arith, l, c.wide-k.ensures, c.requires.formed.arities c.args.p c.requires.u_lt_n.1),
-          omega (arith, reaching_small _ _ _ _ _ _ _ _ X.reaching),
-        ); j_bound = child_low _ c.requires.formed _ N.0 c.loop-j.j (omega (arith, l, c.wide-k.ensures)) }
+    let l : c.loop-j.j < c.wide-k.result = c.loop-j-test.true in record {
+      table = c.requires.table;
+      p_bound = (
+        omega (arith, c.requires.formed.most, c.requires.u_lt_n.1),
+        omega (arith, l, c.wide-k.ensures, c.requires.formed.arities c.args.p c.requires.u_lt_n.1),
+        omega (arith, reaching_small _ _ _ _ _ _ _ _ X.reaching),
+      );
+      j_bound = child_low _ c.requires.formed _ N.0 c.loop-j.j (omega (arith, l, c.wide-k.ensures));
+    }
 
 pub loop-j-preserved : goal.loop-j-preserved
 loop-j-preserved c =

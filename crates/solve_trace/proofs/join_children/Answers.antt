@@ -36,9 +36,9 @@ loop-k-preserved c =
     let joined = P.extends.grows _ _ c.requires.u_bound.0 c.requires.u_bound.1 c.requires.u_bound.3 in (
       search rules,
       elim c.if-cx-cy.branch [
-        then-cx-cy w ↦ rw (w.trace-is, w.t-is, w.n-is)
-          (pairs_unite _ _ _ k _ (λ j h. c.requires.by_index j (omega arith)) (λ s E. entry_is _ (omega (arith, w.entry-reason.ensures)) (E _ k joined (search rules))) P c.wide.ensures c.wide-in-loop-k.ensures w.if-cx-cy.true w.unite-next.ensures)
-      | else-cx-cy w ↦ rw (w.trace-is, w.t-is, w.n-is) (pairs_skip _ _ _ k P c.wide.ensures c.wide-in-loop-k.ensures w.if-cx-cy.false)
+        | then-cx-cy w ↦ rw (w.trace-is, w.t-is, w.n-is)
+            (pairs_unite _ _ _ k _ (λ j h. c.requires.by_index j (omega arith)) (λ s E. entry_is _ (omega (arith, w.entry-reason.ensures)) (E _ k joined (search rules))) P c.wide.ensures c.wide-in-loop-k.ensures w.if-cx-cy.true w.unite-next.ensures)
+        | else-cx-cy w ↦ rw (w.trace-is, w.t-is, w.n-is) (pairs_skip _ _ _ k P c.wide.ensures c.wide-in-loop-k.ensures w.if-cx-cy.false)
       ],
     )
 

@@ -32,13 +32,12 @@ overflow_add-n c =
 pub loop-k-preserved : goal.loop-k-preserved
 loop-k-preserved c =
     let k = c.loop-k.k in
-    let P = c.loop-k.invariant.1 in
-    (
+    let P = c.loop-k.invariant.1 in (
       search rules,
       elim c.if-cx-cy.branch [
-        then-cx-cy w ↦ rw (w.trace-is, w.t-is, w.n-is)
-          (pairs_unite _ _ _ k _ (λ j h. c.requires.by_index j (omega arith)) (λ s E. entry_is _ (omega arith) (by_equation_lem _ _ _ _ s k (search rules) E)) P c.wide.ensures c.wide-in-loop-k.ensures w.if-cx-cy.true w.unite-next.ensures)
-      | else-cx-cy w ↦ rw (w.trace-is, w.t-is, w.n-is) (pairs_skip _ _ _ k P c.wide.ensures c.wide-in-loop-k.ensures w.if-cx-cy.false)
+        | then-cx-cy w ↦ rw (w.trace-is, w.t-is, w.n-is)
+            (pairs_unite _ _ _ k _ (λ j h. c.requires.by_index j (omega arith)) (λ s E. entry_is _ (omega arith) (by_equation_lem _ _ _ _ s k (search rules) E)) P c.wide.ensures c.wide-in-loop-k.ensures w.if-cx-cy.true w.unite-next.ensures)
+        | else-cx-cy w ↦ rw (w.trace-is, w.t-is, w.n-is) (pairs_skip _ _ _ k P c.wide.ensures c.wide-in-loop-k.ensures w.if-cx-cy.false)
       ],
     )
 

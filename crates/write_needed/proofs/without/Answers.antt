@@ -12,8 +12,8 @@ pub loop-i-preserved : goal.loop-i-preserved
 loop-i-preserved c =
     let A = c.loop-i.invariant.1.1 in
     elim c.if-i-k.branch [
-      then-i-k w ↦ (search rules, (search rules, rw w.out-is (among_all (omega arith) (among_more (omega arith) (omega arith) A))))
-    | else-i-k w ↦ (search rules, (search rules, rw w.out-is (among_all (omega arith) (among_more (omega arith) (omega arith) A))))
+      | then-i-k w ↦ (search rules, (search rules, rw w.out-is (among_all (omega arith) (among_more (omega arith) (omega arith) A))))
+      | else-i-k w ↦ (search rules, (search rules, rw w.out-is (among_all (omega arith) (among_more (omega arith) (omega arith) A))))
     ]
 
 pub returns : goal.returns

@@ -12,8 +12,8 @@ pub loop-x-preserved : goal.loop-x-preserved
 loop-x-preserved c =
     let A = c.loop-x.invariant.1 in
     elim c.if-table-x.branch [
-      then-table-x w ↦ (search rules, rw (w.buf-is, w.to-is, w.m-is) (absorbed_take A (search rules) (search rules) w.if-table-x.true w.put_line.ensures (omega arith)))
-    | else-table-x w ↦ (search rules, rw (w.buf-is, w.to-is, w.m-is) (absorbed_skip A w.if-table-x.false))
+      | then-table-x w ↦ (search rules, rw (w.buf-is, w.to-is, w.m-is) (absorbed_take A (search rules) (search rules) w.if-table-x.true w.put_line.ensures (omega arith)))
+      | else-table-x w ↦ (search rules, rw (w.buf-is, w.to-is, w.m-is) (absorbed_skip A w.if-table-x.false))
     ]
 
 pub returns : goal.returns
