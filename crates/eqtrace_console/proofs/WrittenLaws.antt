@@ -12,8 +12,8 @@ use Rattle.eqtrace_session.specs.Steps.{beginning, Steps, Run, begun, stepped}
 use Rattle.eqtrace_session.specs.declared.Cursor.{Cursor}
 use Rattle.eqtrace_session.specs.declared.Stepped.{Stepped}
 use Rattle.eqtrace_session.proofs.StepLaws.{seen}
-use Rattle.eqtrace_session.proofs.TranscriptLaws.{transcript}
-use Rattle.eqtrace_console.specs.Console.{Answers}
+use Rattle.eqtrace_session.proofs.TranscriptLaws.{transcript, finished}
+use Rattle.eqtrace_console.specs.Console.{WritesAnswers}
 
 -- ---- the program's loop
 
@@ -54,12 +54,12 @@ module _ {E : Type 0} (a b : Option (List ℕ)) (w : Result (Unit {0}) E) (input
       (transcript.prints input (S.output ++ take r.length new) r.cursor (stepped before after old new r S.run s) ((seen c input before after old new r s).over z))
 
   pub ended : r.length ≡ 0 → (v : Workspace) → v ≡ r.cursor.workspace → Finished input v
-  ended z v e = record { output = S.output; printed = rw e (printed_all z) }
+  ended z v e = finished input c (record { output = S.output; run = S.run }) before after old new r s z v e
 
-  pub answers_written : r.length ≡ 0 → (v : Workspace) → v ≡ r.cursor.workspace → OnOk w (Answers a b input v)
+  pub answers_written : r.length ≡ 0 → (v : Workspace) → v ≡ r.cursor.workspace → OnOk w (WritesAnswers a b input v)
   answers_written z v e = go w S.appended
     where
-      go : (x : Result (Unit {0}) E) → OnOk x (Appends a b S.output) → OnOk x (Answers a b input v)
+      go : (x : Result (Unit {0}) E) → OnOk x (Appends a b S.output) → OnOk x (WritesAnswers a b input v)
       go (Ok x) p = record { output = S.output; appended = p; printed = rw e (printed_all z) }
       go (Err x) p = tt
 
@@ -95,7 +95,7 @@ printed_front n input output w h P = go (leb (length input) n) refl
 
 -- what was written for the bytes that were read is what is to be written for all that the reader had
 pub answers_read : {E : Type 0} (v : Result (Unit {0}) E) (a b known : Option (List ℕ)) (part : List ℕ) (n : ℕ) (w : Workspace) → input_limit < n → IfSome known (λ xs. part ≡ take n xs)
-    → OnOk v (Answers a b part w) → OnOk v (IfSome known (λ xs. (u : Workspace) × Answers a b xs u))
+    → OnOk v (WritesAnswers a b part w) → OnOk v (IfSome known (λ xs. (u : Workspace) × WritesAnswers a b xs u))
 answers_read (Ok x) a b None part n w h e A = tt
 answers_read (Ok x) a b (Some xs) part n w h e A =
     (w, record { output = A.output; appended = A.appended; printed = printed_front n xs A.output w h (subst (λ (l : List ℕ). Printed l A.output w) e A.printed) })

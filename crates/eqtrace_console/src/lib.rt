@@ -5,7 +5,7 @@ ghost use Rattle.std.specs.Prelude.{◌≡◌, ◌≤◌, length, take, IsOk, If
 ghost use Rattle.std.specs.Io.KnownBytes.{Appends};
 ghost use Rattle.unifier.specs.declared.Workspace.{Workspace};
 ghost use Rattle.eqtrace_session.specs.Transcript.{Finished};
-ghost use Rattle.eqtrace_console.specs.Console.{Answers};
+ghost use Rattle.eqtrace_console.specs.Console.{WritesAnswers};
 
 use std::io;
 use std::io::{Read, Write};
@@ -37,7 +37,7 @@ pub fn answer_all<'a, W: Write>(
     to: &mut W,
 ) -> Answered
     ensures finished { Finished input.now result.workspace }
-    ensures written { OnOk result.written (Answers (W.contents to.old) (W.contents to.new) input.now result.workspace) }
+    ensures written { OnOk result.written (WritesAnswers (W.contents to.old) (W.contents to.new) input.now result.workspace) }
 {
     let mut c = eqtrace_session::begin(input);
     let mut written = Ok(());
@@ -75,7 +75,7 @@ pub fn read_full<R: Read>(from: &mut R, buf: &mut [u8]) -> io::Result<usize>
 
 // One byte more than an input may have tells that it is too long.
 pub fn run<R: Read, W: Write>(from: &mut R, to: &mut W) -> io::Result<()>
-    ensures { OnOk result (IfSome (R.remaining from.old) (λ input. (w : Workspace) × Answers (W.contents to.old) (W.contents to.new) input w)) }
+    ensures { OnOk result (IfSome (R.remaining from.old) (λ input. (w : Workspace) × WritesAnswers (W.contents to.old) (W.contents to.new) input w)) }
 {
     let mut input = [0u8; 65537];
     let n = read_full(from, &mut input)?;
