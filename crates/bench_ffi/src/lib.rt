@@ -1,4 +1,4 @@
-// The engine's parts for C and Rust, as a static library (`rt staticlib bench_ffi`): numbers, lent arrays and slices only. Each function
+// The engine's parts for C and Rust, as a static library (`rt lib` in this folder): numbers, lent arrays and slices only. Each function
 // hands on to the crate that does the work, with that crate's promise. Nobody proves of a C caller what a `requires` asks: it owes it.
 #![tactic(auto)]
 
