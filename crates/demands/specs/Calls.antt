@@ -4,7 +4,7 @@
 --   Ran         one call: the record that the method's `ensures` cites (specs/Tied takes each `ensures` here)
 --   RanAll      a list: each call gets the workspace that the last one returned
 --   fed         a call as document 01's book is fed it: without the workspace, a proof buffer by its length
---   said_of      a reply as the book gives it, line counts aside
+--   said_of     a reply as the book gives it, line counts aside
 use Rattle.std.specs.Prelude.{◌≡◌, List, [], ◌∷◌, ℕ, length}
 use Rattle.graph.specs.State.{variable, functor, Equation}
 use Rattle.graph.specs.Book as book

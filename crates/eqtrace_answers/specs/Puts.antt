@@ -1,8 +1,8 @@
 -- Bytes put into a lent buffer.
---   pasted       the buffer with bytes from a place on, and every other byte as it was
---   Puts         bytes were put there; the reply is the place after them
---   meant        an answer with the names cited beside it
---   Says         an answer's text from place 0 on
+--   pasted        the buffer with bytes from a place on, and every other byte as it was
+--   Puts          bytes were put there; the reply is the place after them
+--   meant         an answer with the names cited beside it
+--   Says          an answer's text from place 0 on
 --   answer_room   bytes that hold every answer: a word of at most 7 letters, two numbers or one and 8,192 names, each of at most 6 bytes
 --                with its space, and the line break
 use Rattle.std.specs.Prelude.{◌≡◌, List, ◌++◌, ℕ, ◌+◌, ◌<◌, length, take, drop}

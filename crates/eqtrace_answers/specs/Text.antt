@@ -1,7 +1,7 @@
 -- Replies as text (document 01, "The program `eqtrace`"): one line each, numbers in decimal, cited names rising after 8, 9, same, below and above.
 --   decimal   a number's digits
 --   Output    what the program says of one order
---   text_of    its bytes, with the line break
+--   text_of   its bytes, with the line break
 use Rattle.std.specs.Prelude.{cond, List, [], ◌∷◌, ◌++◌, ℕ, zero, suc, ◌+◌, ◌/◌, ◌%◌, ltb}
 
 -- at most n + 1 digits

@@ -1,6 +1,6 @@
 -- The grammar of orders (document 01, "The program `eqtrace`"): one a line, single spaces, decimal without leading zeros, numbers to 65,535.
---   Order      V; F symbol children; E name left right; W name; Q u v
---   split      bytes cut at each occurrence of one byte: orders at 10, words at 32
+--   Order       V; F symbol children; E name left right; W name; Q u v
+--   split       bytes cut at each occurrence of one byte: orders at 10, words at 32
 --   number_of   a word as a number; none where it isn't one
 --   order_of    a line's bytes as an order; none where it can't be read (refusal 16)
 --   orders_in   the lines of an input: only byte 10 breaks a line, and a final line break may be missing

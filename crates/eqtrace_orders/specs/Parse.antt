@@ -1,7 +1,7 @@
 -- What the parser gives for a line, in the terms of the grammar.
 --   first_five   the children that are handed on: the book's answer to more than four doesn't depend on the rest
---   Gives       the code's command for an order of the grammar, or that the line can't be read (refusal 16)
---   Parses      the same for a line
+--   Gives        the code's command for an order of the grammar, or that the line can't be read (refusal 16)
+--   Parses       the same for a line
 use Rattle.std.specs.Prelude.{◌≡◌, List, ℕ, length, take}
 use Rattle.std.proofs.Math.Option.{Option, none, some}
 use Rattle.eqtrace_orders.specs.Grammar.{Order, variable, functor, equate, withdraw, query, order_of, by_letter}

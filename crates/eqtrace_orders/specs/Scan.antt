@@ -1,9 +1,9 @@
 -- What the scanner of numbers gives, in the terms of the grammar.
 --   in_word      a word goes on
 --   first_word   the bytes to the first space
---   Scans       a word's digits as a number, and where the word ends
---   IsNumber    the same, where the word is a number of the grammar
---   Collects    the words as numbers: how many, and the first six; or that one is no number
+--   Scans        a word's digits as a number, and where the word ends
+--   IsNumber     the same, where the word is a number of the grammar
+--   Collects     the words as numbers: how many, and the first six; or that one is no number
 use Rattle.std.specs.Prelude.{◌≡◌, Bool, true, false, not, cond, List, [], ◌∷◌, ℕ, ◌+◌, ◌<◌, length, get_or, eqb}
 use Rattle.std.proofs.Math.Option.{Option, none, some}
 use Rattle.eqtrace_orders.specs.Grammar.{digits_from, number_of, numbers_of, split}

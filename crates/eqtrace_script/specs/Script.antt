@@ -1,14 +1,14 @@
 -- An input as a script: which of its lines are answered, and when the program stops (document 02 (a)). There are two ways to answer a list of
 -- orders: to its end, or to the first refusal.
 --   input_limit   65,536
---   refuses      an answer says that the order was refused
+--   refuses       an answer says that the order was refused
 --   goes_on       whether the next order is answered: always in the way that keeps going, else not after a refusal
 --   left_after    the orders that are left after an answer
 --   next_place    where the input goes on behind an order: at the next line, or at its end if the answer stops the program
 --   is_keep       the line `K`, which the grammar of orders can't read
---   Script       orders to answer, the way, and the first one's number
+--   Script        orders to answer, the way, and the first one's number
 --   script_of     an input's lines as a script: a first line `K` is order 1, has no answer, and says to keep going
---   to_refusal    answers up to the first refusal, and with it; someRefuses: there is one
+--   to_refusal    answers up to the first refusal, and with it; some_refuses: there is one
 use Rattle.std.specs.Prelude.{Bool, true, false, ◌||◌, not, cond, List, [], ◌∷◌, ℕ, ◌+◌, eqb}
 use Rattle.eqtrace_answers.specs.Text.{Output, node, held, gone, same, below, above, apart, refused, unreadable}
 

@@ -1,6 +1,6 @@
 -- An input read by a cursor, order by order, and the claim about all steps of a cursor: what they print is what `Printed` says.
 --   beginning    where an input's script begins: behind a first line `K`, or at the first byte
---   left_of       what is left of an input at a place, with the number of the order there
+--   left_of      what is left of an input at a place, with the number of the order there
 --   Steps        one step: the text at the start of the lent buffer `out`, and the cursor behind it. `before` and `after` are the proof buffer,
 --                `old` and `new` the one of the text
 --   Run          steps over an input from a cursor on: the bytes that they printed, and the cursor behind them

@@ -1,6 +1,6 @@
 -- What the program prints for an input (document 01, "The program `eqtrace`"; document 02 (a)), from the input's bytes.
---   texts_of     the answers' texts, one after the other
---   script_in    the script that an input is
+--   texts_of    the answers' texts, one after the other
+--   script_in   the script that an input is
 --   AnswersTo   the answers to an input and the workspace after it: those to its script, from the fresh workspace on, each order by its
 --               call's own contract with the names that the lines written rest on. An input of more than 65,536 bytes has no orders and one
 --               answer, `refused 16 0`

@@ -1,7 +1,7 @@
 -- What a call that isn't refused has shown, and what such calls keep.
---   nodes-full .. equations-full        what the lists refuse, by number, in document 01's order
---   declare-accepted, equate-accepted   what is known past that
---   answer_keeps, runs-keep             a property that accepted calls keep is kept by every answer and every list of calls
+--   nodes_full .. equations_full        what the lists refuse, by number, in document 01's order
+--   declare_accepted, equate_accepted   what is known past that
+--   answer_keeps, runs_keep             a property that accepted calls keep is kept by every answer and every list of calls
 use mathlib.Core.Path.{◌≡◌, refl}
 use mathlib.Core.Bool.{Bool, true, false, ◌&&◌}
 use mathlib.Core.List.{List}

@@ -1,7 +1,7 @@
 -- The claims of a list of lines with more lines at its end.
---   checked-append, checked-snoc   more lines, one line more
---   checked-claim, checked-stop    one that keeps its rule adds its claim, one that breaks it ends the list
---   checked-one-more               the first i + 1 lines, by the first i
+--   checked_append, checked_snoc   more lines, one line more
+--   checked_claim, checked_stop    one that keeps its rule adds its claim, one that breaks it ends the list
+--   checked_one_more               the first i + 1 lines, by the first i
 use mathlib.Core.Path.{◌≡◌, refl, sym, ap, ◌∙◌}
 use mathlib.Core.List.{List, [], ◌∷◌, ◌++◌}
 use mathlib.Core.Option.{Option, some}

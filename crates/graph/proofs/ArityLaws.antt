@@ -1,12 +1,12 @@
 -- One number of children for each symbol (document 02 (c)).
---   AllFit, fits-exact, fits-at, at-fits   the test passes exactly where each functor node of the symbol has that number of children
+--   AllFit, fits_exact, fits_at, at_fits   the test passes exactly where each functor node of the symbol has that number of children
 --   Misfit, misfit        where it fails, one of them has another number
---   eighteen-just, eighteen-so, variable-fits   a declaration past refusals 2, 3 and 4 is refused with 18 exactly then
---   fits-by-one           of nodes that keep the rule, any one of the symbol decides it
+--   eighteen_just, eighteen_so, variable_fits   a declaration past refusals 2, 3 and 4 is refused with 18 exactly then
+--   fits_by_one           of nodes that keep the rule, any one of the symbol decides it
 --   fits_snoc             the test of one node more
---   equal-arities         where the rule holds, equal labels have equally many children: document 01's label says the same
---   one-arity-declared, last_fits   the rule with one node more is the rule and the test
---   one-arity-runs        after every list of calls functor nodes of one symbol have equally many children
+--   equal_arities         where the rule holds, equal labels have equally many children: document 01's label says the same
+--   one_arity_declared, last_fits   the rule with one node more is the rule and the test
+--   one_arity_runs        after every list of calls functor nodes of one symbol have equally many children
 use mathlib.Core.Path.{◌≡◌, refl, sym, ap, ◌∙◌}
 use mathlib.Core.Logic.{⊎_elim}
 use mathlib.Core.Bool.{Bool, true, false, not, ◌&&◌, ◌||◌, cond}

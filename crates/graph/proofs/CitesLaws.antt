@@ -1,5 +1,5 @@
 -- The checker's definition cites only what the state holds.
---   passes-cites   each name that an equation line of a list that passes cites is held
+--   passes_cites   each name that an equation line of a list that passes cites is held
 use mathlib.Core.Path.{◌≡◌, refl, sym, subst}
 use mathlib.Core.Bool.{Bool, true, false, cond}
 use mathlib.Core.List.{List, [], ◌∷◌, ◌++◌}

@@ -1,6 +1,6 @@
 -- The list of held equations with one more at the end, and with one struck: what stands in it, how many, and names all different.
---   removed-in, removed-fewer        what is left after a withdrawal stood there before
---   distinct_snoc, distinct-removed  names stay all different
+--   removed_in, removed_fewer        what is left after a withdrawal stood there before
+--   distinct_snoc, distinct_removed  names stay all different
 use mathlib.Core.Path.{◌≡◌, refl, sym}
 use mathlib.Core.Bool.{Bool, true, false, cond}
 use mathlib.Core.List.{List, [], ◌∷◌, ◌++◌}

@@ -1,6 +1,6 @@
 -- The book's calls keep document 01's limits.
 --   Limits                       of nodes, of children, of equations, and names all different
---   limits-answer, limits-runs   after every answer and every list of calls
+--   limits_answer, limits_runs   after every answer and every list of calls
 use mathlib.Core.Path.{subst}
 use mathlib.Core.Logic.{⊎_elim}
 use mathlib.Core.List.{List, [], ◌∷◌}

@@ -1,7 +1,7 @@
 -- What a lookup of the checker's definition that found something says.
---   IfSome, All                  a property of what is there, if anything is; of each element
---   named-held, functor-at       an equation found by its name is held; a functor found stands there
---   labels-equal, equal-labels   the label test says what equal labels are
+--   IfSome, All                      a property of what is there, if anything is; of each element
+--   named_held, functor_at_lem       an equation found by its name is held; a functor found stands there
+--   labels_equal, equal_labels_lem   the label test says what equal labels are
 use mathlib.Core.Path.{◌≡◌, refl, subst}
 use mathlib.Core.Bool.{Bool, true, false, cond}
 use mathlib.Core.List.{List, [], ◌∷◌, ◌++◌}

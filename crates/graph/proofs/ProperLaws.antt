@@ -1,6 +1,6 @@
 -- The book's calls keep a state proper: children earlier, ends known.
---   proper-declared, proper-offered, proper-removed   by one call
---   proper-answer, proper-runs                        after every answer and every list of calls
+--   proper_declared, proper_offered, proper_removed   by one call
+--   proper_answer, proper_runs                        after every answer and every list of calls
 use mathlib.Core.Path.{◌≡◌, refl, ap, subst}
 use mathlib.Core.Logic.{⊎_elim}
 use mathlib.Core.Bool.{Bool, true, false, ◌&&◌}

@@ -1,6 +1,6 @@
 -- The book's calls keep a solution.
---   solution-declared, solution-removed   a node more, an equation fewer
---   solution-answer-declare ..            after every answer; of an equation that is taken the verdict's side must say it
+--   solution_declared, solution_removed   a node more, an equation fewer
+--   solution_answer_declare ..            after every answer; of an equation that is taken the verdict's side must say it
 use mathlib.Core.Path.{◌≡◌, refl, sym, ap, ◌∙◌}
 use mathlib.Core.Logic.{◌⊎◌, inl, inr, ⊎_elim}
 use mathlib.Core.Bool.{true, cond}

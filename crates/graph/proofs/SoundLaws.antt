@@ -1,7 +1,7 @@
 -- The checker's definition is sound: what passes is true of the closure.
---   claim-ok      what a line claims holds, where the claims before it do
---   checked-ok    every claim of a list that keeps its rules holds in the closure
---   judge-sound   what a list that passes was to show is true: clash, cycle, same and below
+--   claim_ok      what a line claims holds, where the claims before it do
+--   checked_ok    every claim of a list that keeps its rules holds in the closure
+--   judge_sound   what a list that passes was to show is true: clash, cycle, same and below
 use mathlib.Core.Path.{◌≡◌, refl}
 use mathlib.Core.Bool.{Bool, true, false, cond}
 use mathlib.Core.List.{List, [], ◌∷◌}

@@ -1,8 +1,8 @@
 -- Proof lines as data, what each claims, and the checker's walk over a list of them (document 01, "Proof lines").
---   Line         the fields of a line; `reserved` is the number in bytes 6 and 7
---   Claim        start and end, of kind same or below
+--   Line          the fields of a line; `reserved` is the number in bytes 6 and 7
+--   Claim         start and end, of kind same or below
 --   rule_table    which fields a rule uses: document 01's one fixed table, a row for each of rules 1 to 6
---   tidy         fields that the rule doesn't use are zero
+--   tidy          fields that the rule doesn't use are zero
 --   claim_of      what a line claims after the claims of the lines before it; none where it breaks its rule
 --   line_claims   all claims of a list, or the number of the first line that breaks its rule
 -- Rules 3, 4 and 5 (self, turned, joined) are reflexivity, symmetry and transitivity.

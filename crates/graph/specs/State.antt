@@ -5,12 +5,12 @@
 --   IsNode       a known node
 --   NodeAt, ChildAt, Held   what stands at a place of a list
 --   FunctorAt    a functor node stands there
---   name_held     a name is held
+--   name_held    a name is held
 --   EqualLabels  equal labels of two functor nodes: one symbol
 --   OneArity     functor nodes of one symbol have equally many children
 --   Proper       each child is an earlier node, each end of an equation a known node
 --   offered      the state with one equation more, document 01's held and offered together
---   with_offer    the same where perhaps one equation is offered
+--   with_offer   the same where perhaps one equation is offered
 use Rattle.std.specs.Prelude.{◌≡◌, Bool, true, false, cond, List, [], ◌∷◌, ◌++◌, ℕ, ◌<◌, length, eqb}
 use Rattle.std.proofs.Math.Option.{Option, none, some}
 use Rattle.std.proofs.Math.ListN.{get_elem?}

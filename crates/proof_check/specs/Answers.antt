@@ -1,5 +1,5 @@
 -- The checker's answers in document 01's terms.
---   walked      how the code's walk over the lines ended
+--   walked       how the code's walk over the lines ended
 --   goal_of      the thing to be shown
 --   judged_as    the code's answer: passed, a refusal's number, or the line of refusal 12
 --   bad_length   refusal 11's case: 0 bytes, over 65,536, or no multiple of 8

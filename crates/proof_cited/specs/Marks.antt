@@ -1,8 +1,8 @@
 -- What one step of the marking stores, and what the tables hold after all of them.
 --   mark_one, mark_all   the lines that line k cites are marked, where they come before it
---   see_one       the name of an equation line is noted
---   block_one     and so is its block: names 64 b to 64 b + 63 are block b
---   block_size    64
+--   see_one      the name of an equation line is noted
+--   block_one    and so is its block: names 64 b to 64 b + 63 are block b
+--   block_size   64
 --   Blank        a table of n zeros
 --   ones         how many entries are 1
 --   Listable     both tables note the same names, at most 8,192

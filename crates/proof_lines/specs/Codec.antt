@@ -2,7 +2,7 @@
 --   line_at       line k of the bytes
 --   first_lines   the first n lines
 --   lines_of      all whole lines
---   Put          a line was written at its place, and no other byte
+--   Put           a line was written at its place, and no other byte
 use Rattle.std.specs.Prelude.{◌≡◌, List, ℕ, ◌+◌, ◌*◌, ◌/◌, ◌≤◌, ◌<◌, length, get_or}
 use Rattle.base.specs.Tab.{tab}
 use Rattle.graph.specs.Lines.{Line}

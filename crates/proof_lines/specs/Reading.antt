@@ -1,7 +1,7 @@
 -- A line as the code hands it on: its four fields, and the row of the rule table.
 --   line_of     the line with these fields, its reserved bytes zero
 --   fields_of   the fields of a line
---   decoded    what stands at line k of the bytes: a whole line; one whose reserved bytes are not zero, with their number; no whole line
+--   decoded     what stands at line k of the bytes: a whole line; one whose reserved bytes are not zero, with their number; no whole line
 --   uses_in     a row of the code's table, read as a row of `rule_table`
 use Rattle.std.specs.Prelude.{cond, List, ℕ, ◌/◌, length, eqb, ltb}
 use Rattle.graph.specs.Lines.{Line, Uses, uses}

@@ -2,8 +2,8 @@
 --   offer_of          the offered equation, if there is one
 --   both_below, offer_below   of n nodes, each named one is known
 --   claim_by          a claim by its kind, start and end: kind 0 is same, any other below
---   claimed          the code's answer about a line, as a claim or none
---   placed           the child at a place, or none
+--   claimed           the code's answer about a line, as a claim or none
+--   placed            the child at a place, or none
 --   labels_compared   how the labels of two nodes compare
 use Rattle.std.specs.Prelude.{Bool, true, ◌&&◌, cond, ℕ, eqb, ltb}
 use Rattle.std.proofs.Math.Option.{Option, none, some}

@@ -1,7 +1,7 @@
 -- Document 01's shorter-of-two: of two lists of lines that each pass for the same goal, the one with fewer lines, the first on a tie. The
 -- first list is checked whole, then the second.
---   Choice         which list, or a refusal: its number; at 11 and 13 with the list, 1 or 2; at 12 the list and the line
---   choice         the code's reply in these terms
+--   Choice          which list, or a refusal: its number; at 11 and 13 with the list, 1 or 2; at 12 the list and the line
+--   choice          the code's reply in these terms
 --   shorter_reply   the choice between two lists, given as bytes
 --   shorter_of      the bytes that are handed back: none where the choice is refused
 use Rattle.std.specs.Prelude.{cond, List, [], ℕ, ◌/◌, length, ltb}

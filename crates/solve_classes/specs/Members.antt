@@ -5,11 +5,11 @@
 --   size_of       how many there are
 --   lowest_from   which is the lowest
 --   class_number  the lowest that passes two tests, else the lowest that passes the first: a class number, by its members
---   Lowest       r is the lowest number that has P
---   Alone        nodes from n on are alone in their class, as those that a state doesn't have
---   CountOf      k of the numbers below n have P
---   ClassNumber  document 02 (b): "the lowest functor node of the class, and the lowest variable where there is none"
---   ClassOf      the class reply: a class number, "and how many nodes the class has"
+--   Lowest        r is the lowest number that has P
+--   Alone         nodes from n on are alone in their class, as those that a state doesn't have
+--   CountOf       k of the numbers below n have P
+--   ClassNumber   document 02 (b): "the lowest functor node of the class, and the lowest variable where there is none"
+--   ClassOf       the class reply: a class number, "and how many nodes the class has"
 use Rattle.std.specs.Prelude.{◌≡◌, Bool, true, false, ◌&&◌, cond, List, ℕ, zero, suc, ◌+◌, ◌*◌, ◌^◌, ◌≤◌, ◌<◌, length, get_or, eqb, ltb}
 use Rattle.graph.specs.State.{State, variable, NodeAt, FunctorAt}
 use Rattle.graph.specs.Closure.{Same}

@@ -1,9 +1,9 @@
 -- Class tables: 64 numbers, the entry of a node being the root of its class, which is the lowest node in it. A root stands for a class
 -- inside one call; the class number of the reply is another (`ClassNumber` in specs/Members).
---   class        the entry of a node
---   Table        each entry is a root: the lowest node of its class
+--   class         the entry of a node
+--   Table         each entry is a root: the lowest node of its class
 --   merged_class  a node's entry once the classes of a and b are one, under the lower root
---   Merged       what a merge gives: exact entry by entry, and what it does to "in one class"
+--   Merged        what a merge gives: exact entry by entry, and what it does to "in one class"
 --   member_at     how many nodes a class has is a sum of these
 --   class_count   the number of classes, which falls with each merge of two classes
 use Rattle.std.specs.Prelude.{◌≡◌, List, cond, ◌⊎◌, ℕ, ◌≤◌, ◌<◌, length, get_or, eqb, leb}

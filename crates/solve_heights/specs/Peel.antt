@@ -2,12 +2,12 @@
 -- Its height is the number of classes that went before it; while it is left it has none.
 --   no_height  stands for the height of a class that has none
 --   height_at  the height of the class with root c
---   classes   how many classes the known nodes have
---   left      how many of them are left
---   Lower     heights rise from child to parent
---   Stuck     a functor node with a child in a class that is left
---   Blocked   a class with such a node
---   Peeled    what the peel gives: heights that rise, and what is left is blocked by what is left
+--   classes    how many classes the known nodes have
+--   left       how many of them are left
+--   Lower      heights rise from child to parent
+--   Stuck      a functor node with a child in a class that is left
+--   Blocked    a class with such a node
+--   Peeled     what the peel gives: heights that rise, and what is left is blocked by what is left
 use Rattle.std.specs.Prelude.{◌≡◌, cond, List, ℕ, ◌+◌, ◌<◌, eqb, length, get_or}
 use Rattle.store.specs.Views.{arity_at}
 use Rattle.store.specs.declared.Terms.{Terms}

@@ -1,9 +1,9 @@
 -- An entry of a trace as one number of 16 bits. Below `place_base` it is an equation's place in the list; any other is two nodes
 -- and a place, counted from 1.
 --   node_base, place_base   the bases in which an entry is written: six bits for a node, whatever the limit of nodes is
---   entry_of               two nodes and a place, counted from 0, as an entry
+--   entry_of                two nodes and a place, counted from 0, as an entry
 --   first_of, second_of     an entry's two nodes
---   place_of               its place, counted from 1 as a line of a proof does
+--   place_of                its place, counted from 1 as a line of a proof does
 use Rattle.std.specs.Prelude.{ℕ, ◌+◌, ◌*◌, ◌/◌, ◌%◌}
 
 abbrev pub node_base : ℕ

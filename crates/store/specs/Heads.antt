@@ -1,6 +1,6 @@
 -- A table of heads: for each of 64 groups of functor nodes the first that was met, by the group's number.
 --   no_head   stands for the head of a group that has none: no node has this number
---   Meets    what a node finds at its visit: no head of its group yet, or the head
+--   Meets     what a node finds at its visit: no head of its group yet, or the head
 use Rattle.std.specs.Prelude.{◌≡◌, List, ℕ, ◌≤◌, ◌<◌, get_or, set}
 
 abbrev pub no_head : ℕ

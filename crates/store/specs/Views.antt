@@ -1,7 +1,7 @@
 -- The arrays read as the lists of a state, and back.
---   terms, equations          a value of the struct by its fields: how a contract over lent arrays names one
+--   terms, equations            a value of the struct by its fields: how a contract over lent arrays names one
 --   nodes_of, equations_of      the lists that the arrays hold
---   state_from                 both, as a state
+--   state_from                  both, as a state
 --   pack_terms, pack_equations  the arrays that hold given lists, with zero in every unused place
 --   fresh_terms, fresh_equations  no nodes, no equations
 -- On well-shaped values (specs/Shape) the two directions are inverse: proofs/PackLaws.

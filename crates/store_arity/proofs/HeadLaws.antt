@@ -1,7 +1,7 @@
 -- One number of children for each symbol: node by node, by the heads of symbols.
---   rule-none, rule-more, rule-not, rule-any   the rule of the first nodes, one more that fits, one that doesn't, whichever children
---   heads-none, heads-more                     the heads of the first nodes, and of one more
---   fits-alone, fits_head, fits_all            what the head that a node meets says of it: none, of its symbol, of another
+--   rule_none, rule_more, rule_not, rule_any   the rule of the first nodes, one more that fits, one that doesn't, whichever children
+--   heads_none, heads_more                     the heads of the first nodes, and of one more
+--   fits_alone, fits_head, fits_all            what the head that a node meets says of it: none, of its symbol, of another
 use mathlib.Core.Path.{◌≡◌, sym, ap, ◌∙◌, subst}
 use mathlib.Core.Bool.{Bool, true, false}
 use mathlib.Core.Logic.{⊎_elim}

@@ -1,5 +1,5 @@
 -- A set of the numbers below 65,536, one bit each in 1,024 words: bit x % 64 of word x / 64 stands for x.
---   bit_at      the bit that stands for x
+--   bit_at     the bit that stands for x
 --   BitNoted   what noting x does: whether it was new, and that its bit alone is set
 --   Marks      the set holds just the first n numbers of a list
 use Rattle.std.specs.Prelude.{◌≡◌, Bool, List, ℕ, ◌/◌, ◌%◌, ◌^◌, ◌<◌, length, get_or, eqb}

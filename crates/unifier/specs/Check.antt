@@ -4,7 +4,7 @@
 --   goal_below   of n nodes, each that the goal names is known
 --   offer_new    the offered name isn't held
 --   check_reply  the reply to a workspace, from its two lists
---   Checks      the whole promise
+--   Checks       the whole promise
 use Rattle.std.specs.Prelude.{◌≡◌, Bool, true, not, ◌&&◌, cond, List, ℕ, length}
 use Rattle.std.proofs.Math.Option.{Option, none, some}
 use Rattle.graph.specs.State.{State, Equation, name_held, with_offer}

@@ -1,7 +1,7 @@
 -- A workspace read as a state, and which values are workspaces.
 --   state_of     the two lists that a workspace holds: what document 01's book is held against
---   packed      the workspace that holds a state: its two lists in order, zero in unused places
---   Valid       document 01's "is a workspace": well-shaped, and the held equations have a solution
+--   packed       the workspace that holds a state: its two lists in order, zero in unused places
+--   Valid        document 01's "is a workspace": well-shaped, and the held equations have a solution
 use Rattle.graph.specs.State.{State}
 use Rattle.graph.specs.Solution.{Solution}
 use Rattle.store.specs.Views as store

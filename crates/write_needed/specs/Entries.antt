@@ -1,5 +1,5 @@
 -- Entries of a trace, as the arrays of nodes and equations have them.
---   end_at             the node that an entry joins on one side
+--   end_at            the node that an entry joins on one side
 --   InRange           an entry's numbers are places of the arrays
 --   Limited           a state within the limits, and proper
 --   EndsAndChildren   its equations have these ends, its nodes these children
