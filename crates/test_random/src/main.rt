@@ -73,6 +73,23 @@ fn rounds(m: &mut [usize], proof: &mut [u8]) {
     }
 }
 
+// How often each number refused, from its own place on.
+fn show_refusals(rt: &impl Print, m: &[usize]) -> io::Result<()> {
+    print(
+        rt,
+        b"refused 2: #\nrefused 3: #\nrefused 4: #\nrefused 5: #\nrefused 6: #\nrefused 7: #\n",
+        m,
+        2,
+    )?;
+    print(
+        rt,
+        b"refused 10: #\nrefused 11: #\nrefused 12: #\nrefused 13: #\n",
+        m,
+        10,
+    )?;
+    print(rt, b"refused 18: #\n", m, 18)
+}
+
 fn show(rt: &impl Print, m: &[usize]) -> io::Result<()> {
     print(
         rt,
@@ -92,19 +109,7 @@ fn show(rt: &impl Print, m: &[usize]) -> io::Result<()> {
         m,
         counts::SAME,
     )?;
-    print(
-        rt,
-        b"refused 2: #\nrefused 3: #\nrefused 4: #\nrefused 5: #\nrefused 6: #\nrefused 7: #\n",
-        m,
-        2,
-    )?;
-    print(
-        rt,
-        b"refused 10: #\nrefused 11: #\nrefused 12: #\nrefused 13: #\n",
-        m,
-        10,
-    )?;
-    print(rt, b"refused 18: #\n", m, 18)?;
+    show_refusals(rt, m)?;
     print(
         rt,
         b"proofs checked: #\ntheir lines: #\nrandom lines passed: #\ndamaged proofs passed: #\ndamaged proofs refused: #\n",
