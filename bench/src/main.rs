@@ -40,8 +40,8 @@ fn solve_rows(all: &[Workload]) {
         };
         let rattle = || {
             let mut height = [0; 64];
-            let (c, v) = rattle::solve(black_box(&w.terms), &w.equations, w.equations.count, &mut height);
-            black_box((c.table, c.trace, v, height));
+            let (c, v) = rattle::solve(black_box(&w.terms), &w.equations, &mut height);
+            black_box((c.table, c.rows, v, height));
         };
         let rounds = plain::count_rounds(&w.terms, &w.equations);
         row(&format!("{}, {rounds} rounds", l.name), &mut [Side::of(rust), Side::of(rattle)]);

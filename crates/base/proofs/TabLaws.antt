@@ -6,7 +6,9 @@ use Prim.Native.Nat.{ℕ, zero, suc, ◌+◌, ◌≤◌, ◌<◌}
 use native.Mathlib.Nat.{le_of_suc-le-suc, not-suc-le-zero}
 use native.Mathlib.Numerals.{add-one}
 use native.Mathlib.Omega.{arith}
-use lib.ListN.{length, get_or, get_elem?}
+use lib.ListN.{length, get_or, get_elem?, drop, length-drop}
+use borrow.Rule.Slice.PartMut.{mid_of}
+use Rattle.std.proofs.lemmas.List.{get_or-take, get_or-drop, length-take-le}
 use Rattle.base.specs.Tab.{tab}
 use Rattle.base.proofs.ListLaws.{found_lt}
 
@@ -83,3 +85,13 @@ module _ {A : Type 0} where
 -- an array is the table of its elements
 pub array_tab : (n : ℕ) (l : List ℕ) → length l ≡ n → tab n (λ i. get_or l i 0) ≡ l
 array_tab n l e = ap (λ (k : ℕ). tab k (λ i. get_or l i 0)) (sym e) ∙ tab_list 0 l
+
+-- a part of an array
+pub mid_tab : (a k : ℕ) (l : List ℕ) → a + k ≤ length l → mid_of a k l ≡ tab k (λ j. get_or l (a + j) 0)
+mid_tab a k l h =
+    sym (tab_list 0 (mid_of a k l))
+    ∙ ap (λ (n : ℕ). tab n (λ i. get_or (mid_of a k l) i 0)) size
+    ∙ tab_same k _ _ (λ i g. get_or-take k (drop a l) i 0 g ∙ get_or-drop a l i 0)
+  where
+    size : length (mid_of a k l) ≡ k
+    size = length-take-le k (drop a l) (omega (arith, length-drop a l))

@@ -1,10 +1,2 @@
-// What is general: laws of lists, numbers, tests and sums (see specs/ and proofs/), and a byte as an index.
+// What is general: laws of lists, numbers, tests and sums. See specs/ and proofs/; there is no code here.
 #![tactic(auto)]
-
-ghost use Rattle.std.specs.Prelude.{◌≡◌};
-
-pub fn wide(x: u8) -> usize
-    ensures { result ≡ x }
-{
-    x as usize
-}

@@ -1,2 +1,2 @@
--- What the wrappers' proofs cite.
-pub mod Laws  -- a reply by numbers
+-- Laws of the loops.
+pub mod MapLaws

@@ -1,2 +1,3 @@
--- Answers as numbers.
+-- Answers and parts as numbers.
 pub mod Numbers
+pub mod Parts

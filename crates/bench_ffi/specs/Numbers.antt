@@ -1,48 +1,55 @@
 -- Replies as numbers, for callers in other languages.
---   told, ..       a reply as three numbers: 0 a refusal, its number and, with 8, 9 and 12, the count of proof
+--   in_numbers, .. a reply as three numbers: 0 a refusal, its number and, with 8, 9 and 12, the count of proof
 --                  lines or the line; 1 a node; 2 held; 3 gone; 4 same, 5 below, 6 above, each with the count of proof lines;
 --                  7 apart; 8 a class, its number and size; 9 passed
 --   ByNumbers      what a call promises of its result, told by these numbers and the workspace
-use Rattle.std.specs.Prelude.{◌≡◌, List, [], ◌∷◌, ℕ}
+use Rattle.std.specs.Prelude.{◌≡◌, List, [], ◌∷◌, ℕ, Result, Ok, Err}
+use Rattle.refusals.specs.Numbers.{refusal_number, Brought, nothing, proof, place, brings}
+use Rattle.refusals.specs.declared.Refusal.{Refusal}
+use Rattle.solve_classes.specs.declared.Figures.{Figures}
+use Rattle.unifier_respond.specs.declared.Standing.{Standing}
+use Rattle.unifier_respond.specs.declared.Standing.TheVariants as stands
 use Rattle.unifier.specs.declared.Workspace.{Workspace}
-use Rattle.unifier.specs.declared.Reply.{Reply}
-use Rattle.unifier.specs.declared.Reply.TheVariants.{Node, Held, Gone, Refused, Clash, Cycle}
-use Rattle.unifier.specs.declared.Comparison.{Comparison}
-use Rattle.unifier.specs.declared.Comparison.TheVariants as stands
-use Rattle.unifier.specs.declared.ClassReply.{ClassReply}
-use Rattle.unifier.specs.declared.ClassReply.TheVariants as class
-use Rattle.unifier.specs.declared.CheckReply.{CheckReply}
-use Rattle.unifier.specs.declared.CheckReply.TheVariants as check
+use Rattle.unifier.specs.declared.Outcome.{Outcome}
 
 abbrev pub told_of : ℕ → ℕ → ℕ → List ℕ
 told_of k i j = k ∷ (i ∷ (j ∷ []))
 
-abbrev pub told : Reply → List ℕ
-told (Node i) = told_of 1 i 0
-told Held = told_of 2 0 0
-told Gone = told_of 3 0 0
-told (Refused k) = told_of 0 k 0
-told (Clash n) = told_of 0 8 n
-told (Cycle n) = told_of 0 9 n
+abbrev pub brought : Brought → ℕ
+brought nothing = 0
+brought (proof n) = n
+brought (place i) = i
 
-abbrev pub told_comparison : Comparison → List ℕ
-told_comparison (stands.Same n) = told_of 4 n 0
-told_comparison (stands.Below n) = told_of 5 n 0
-told_comparison (stands.Above n) = told_of 6 n 0
-told_comparison stands.Apart = told_of 7 0 0
-told_comparison (stands.Refused k) = told_of 0 k 0
+abbrev pub refused_numbers : Refusal → List ℕ
+refused_numbers r = told_of 0 (refusal_number r) (brought (brings r))
 
-abbrev pub told_class : ClassReply → List ℕ
-told_class (class.Class number size) = told_of 8 number size
-told_class (class.Refused k) = told_of 0 k 0
+abbrev pub node_numbers : ℕ → List ℕ
+node_numbers u = told_of 1 u 0
 
-abbrev pub told_check : CheckReply → List ℕ
-told_check check.Passed = told_of 9 0 0
-told_check (check.Refused k) = told_of 0 k 0
-told_check (check.Broken i) = told_of 0 12 i
+abbrev pub held_numbers : Unit {0} → List ℕ
+held_numbers u = told_of 2 0 0
 
-pub record ByNumbers {A : Type 0} (P : A → Type 0) (numbers : A → List ℕ) (space : A → Workspace) (ns : List ℕ) (w : Workspace) : Type 0 where
-  pub result : A
-  pub promise : P result
-  pub says : ns ≡ numbers result
-  pub after : w ≡ space result
+abbrev pub gone_numbers : Unit {0} → List ℕ
+gone_numbers u = told_of 3 0 0
+
+abbrev pub stance_numbers : Standing → List ℕ
+stance_numbers (stands.Same n) = told_of 4 n 0
+stance_numbers (stands.Below n) = told_of 5 n 0
+stance_numbers (stands.Above n) = told_of 6 n 0
+stance_numbers stands.Apart = told_of 7 0 0
+
+abbrev pub class_numbers : Figures → List ℕ
+class_numbers k = told_of 8 k.number k.size
+
+abbrev pub passed_numbers : Unit {0} → List ℕ
+passed_numbers u = told_of 9 0 0
+
+abbrev pub in_numbers : {A : Type 0} → (A → List ℕ) → Result A Refusal → List ℕ
+in_numbers says (Ok a) = says a
+in_numbers says (Err r) = refused_numbers r
+
+pub record ByNumbers {A : Type 0} (P : Outcome A → Type 0) (numbers : Result A Refusal → List ℕ) (ns : List ℕ) (w : Workspace) : Type 0 where
+  pub outcome : Outcome A
+  pub promise : P outcome
+  pub says : ns ≡ numbers outcome.reply
+  pub after : w ≡ outcome.workspace

@@ -2,6 +2,7 @@
 use mathlib.Core.Path.{◌≡◌, refl, subst}
 use mathlib.Core.Bool.{Bool, true, false, cond}
 use mathlib.Core.List.{List}
+use mathlib.Core.Logic.{⊎_elim}
 use mathlib.Core.Option.{none, some}
 use Prim.Native.Nat.{ℕ, ◌<◌, ◌≤◌}
 use native.Mathlib.Omega.{arith}
@@ -21,18 +22,21 @@ use Rattle.proof_lines.specs.Codec.{first_lines}
 use Rattle.proof_lines.specs.Proof.{ProofIn}
 use Rattle.store.proofs.ViewLaws.{shape_proper}
 use Rattle.unifier.specs.Views.{Valid, state_of, packed}
-use Rattle.unifier.specs.Replies.{said}
+use Rattle.unifier.specs.Replies.{said, is_held}
 use Rattle.unifier.specs.Answers.{Follows}
-use Rattle.unifier.specs.Equate.{Written, Equates}
+use Rattle.unifier.specs.Equate.{LeftBehind, Written, Equates}
 use Rattle.proof_rules.specs.Rules.{both_below}
 use Rattle.unifier.specs.Check.{goal_below}
 use Rattle.unifier.proofs.CheckLaws.{proof_checks}
 use Rattle.unifier.proofs.PackedLaws.{packed_lists}
 use Rattle.unifier.specs.declared.Workspace.{Workspace}
 use Rattle.unifier.specs.declared.Outcome.{Outcome}
-use Rattle.unifier.specs.declared.Reply.{Reply}
-use Rattle.unifier.specs.declared.Reply.TheVariants.{Node, Held, Gone, Refused, Clash, Cycle}
-use Rattle.demands.specs.History.{Shown, ShownBy, Offerable, OfferDecided, taken, clash, cycle}
+use Rattle.std.specs.Prelude.{Result, Ok, Err}
+use Rattle.refusals.specs.Numbers.{refusal_number, Brought, nothing, proof, place, brings}
+use Rattle.refusals.specs.declared.Refusal.{Refusal}
+use Rattle.refusals.specs.declared.Refusal.TheVariants.{Clash, Cycle}
+use Rattle.refusals.proofs.NumberLaws.{proof_number, number_8, number_9}
+use Rattle.demands.specs.History.{Shown, ShownBeside, ShownBy, Offerable, OfferDecided, taken, clash, cycle}
 use Rattle.base.proofs.AbsurdLaws.{zero_is_one}
 
 -- only a refused call is answered with a refusal, and that leaves the lists
@@ -79,44 +83,45 @@ module _ (s : State) (e : Equation) (before after : List ℕ) where
   }
 
   -- what was written shows what the reply says
-  pub shown_by : (k : ℕ) (r : Reply) → book.Refusal s (book.equate e (length before)) k → said r ≡ (book.answer s (book.equate e (length before)) k).reply
+  pub shown_by : (k : ℕ) (r : Result (Unit {0}) Refusal) → book.Refusal s (book.equate e (length before)) k → said is_held r ≡ (book.answer s (book.equate e (length before)) k).reply
       → Written (offered s e) before after r → ShownBy s e before after r
-  shown_by k (Clash n) f h w =
-      let q : k ≡ 8 = (refused_is s (book.equate e (length before)) 8 k h).0 in
-      shown clash_goal n refl (late_past s e (length before) k f (omega arith)) w
-  shown_by k (Cycle n) f h w =
-      let q : k ≡ 9 = (refused_is s (book.equate e (length before)) 9 k h).0 in
-      shown cycle_goal n refl (late_past s e (length before) k f (omega arith)) w
-  shown_by k (Node i) f h w = w
-  shown_by k Held f h w = w
-  shown_by k Gone f h w = w
-  shown_by k (Refused j) f h w = w
+  shown_by k (Ok u) f h w = w
+  shown_by k (Err r) f h w = go (brings r) refl w
+    where
+      q : k ≡ refusal_number r
+      q = (refused_is s (book.equate e (length before)) (refusal_number r) k h).0
+
+      which : (c : Bool) (n : ℕ) → Past s e (length before) → ProofIn (offered s e) (cond c clash_goal cycle_goal) n before after → Shown s e (cond c clash_goal cycle_goal) n before after
+      which true n p i = shown clash_goal n refl p i
+      which false n p i = shown cycle_goal n refl p i
+
+      go : (b : Brought) → brings r ≡ b → LeftBehind (offered s e) before after (refusal_number r) b → ShownBeside s e before after (refusal_number r) b
+      go nothing x i = i
+      go (proof n) x i =
+          which (eqb (refusal_number r) 8) n
+          (late_past s e (length before) k f (⊎_elim (λ z. omega (arith, z, q)) (λ z. omega (arith, z, q)) (proof_number r n x)))
+          i
+      go (place n) x i = i
 
   -- the reply of each verdict
   module _ (p : Past s e (length before)) where
-    by_clash : (r : Reply) → said r ≡ book.refused 8 → Written (offered s e) before after r → (Solution (offered s e) → ⊥) → OfferDecided s e before after r
-    by_clash (Clash n) h w un = clash un (shown clash_goal n refl p w)
-    by_clash (Refused k) h w un = absurd (let q : k ≡ 8 = cc in omega arith)
-    by_clash (Cycle n) h w un = absurd (let z : ◌≡◌ {A = ℕ} 9 8 = cc in omega arith)
-    by_clash (Node i) h w un = zero_is_one cc
-    by_clash Held h w un = zero_is_one cc
-    by_clash Gone h w un = zero_is_one cc
+    by_clash : (r : Result (Unit {0}) Refusal) → said is_held r ≡ book.refused 8 → Written (offered s e) before after r → (Solution (offered s e) → ⊥) → OfferDecided s e before after r
+    by_clash (Ok u) h w un = zero_is_one cc
+    by_clash (Err r) h w un = go (number_8 r cc) w
+      where
+        go : (n : ℕ) × (r ≡ Clash n) → Written (offered s e) before after (Err r) → OfferDecided s e before after (Err r)
+        go (n, x) w = rw x (clash un (shown clash_goal n refl p (rw x at w)))
 
-    by_cycle : (r : Reply) → said r ≡ book.refused 9 → Written (offered s e) before after r → (Solution (offered s e) → ⊥) → OfferDecided s e before after r
-    by_cycle (Cycle n) h w un = cycle un (shown cycle_goal n refl p w)
-    by_cycle (Refused k) h w un = absurd (let q : k ≡ 9 = cc in omega arith)
-    by_cycle (Clash n) h w un = absurd (let z : ◌≡◌ {A = ℕ} 8 9 = cc in omega arith)
-    by_cycle (Node i) h w un = zero_is_one cc
-    by_cycle Held h w un = zero_is_one cc
-    by_cycle Gone h w un = zero_is_one cc
+    by_cycle : (r : Result (Unit {0}) Refusal) → said is_held r ≡ book.refused 9 → Written (offered s e) before after r → (Solution (offered s e) → ⊥) → OfferDecided s e before after r
+    by_cycle (Ok u) h w un = zero_is_one cc
+    by_cycle (Err r) h w un = go (number_9 r cc) w
+      where
+        go : (n : ℕ) × (r ≡ Cycle n) → Written (offered s e) before after (Err r) → OfferDecided s e before after (Err r)
+        go (n, x) w = rw x (cycle un (shown cycle_goal n refl p (rw x at w)))
 
-    by_none : (r : Reply) → said r ≡ book.held → Solution (offered s e) → OfferDecided s e before after r
-    by_none Held h t = taken t
-    by_none (Clash n) h t = zero_is_one cc
-    by_none (Cycle n) h t = zero_is_one cc
-    by_none (Refused k) h t = zero_is_one cc
-    by_none (Node i) h t = zero_is_one cc
-    by_none Gone h t = zero_is_one cc
+    by_none : (r : Result (Unit {0}) Refusal) → said is_held r ≡ book.held → Solution (offered s e) → OfferDecided s e before after r
+    by_none (Ok u) h t = taken t
+    by_none (Err r) h t = zero_is_one cc
 
 -- none of 5, 4, 6, 7 refuses it
 ready : (s : State) (e : Equation) (lent : List ℕ) → Offerable s e lent → book.early s (book.equate e (length lent)) ≡ none
@@ -131,11 +136,11 @@ ready_past s e lent r =
 packed_solution : (s : State) (w : Workspace) → w ≡ packed s → Valid w → Solution s
 packed_solution s w p v = subst Solution (packed_lists s w p v) v.solution
 
-module _ (w : Workspace) (v : Valid w) (e : Equation) (before after : List ℕ) (o : Outcome) where
+module _ (w : Workspace) (v : Valid w) (e : Equation) (before after : List ℕ) (o : Outcome (Unit {0})) where
   pub decides : Offerable (state_of w) e before → Equates w e before after o → OfferDecided (state_of w) e before after o.reply
   decides r q = go f.number (rw (ready (state_of w) e before r) at f.refusal) f.reply f.workspace
     where
-      f : Follows w (book.equate e (length before)) o
+      f : Follows is_held w (book.equate e (length before)) o
       f = q.answers.follows v
 
       past : Past (state_of w) e (length before)
@@ -144,7 +149,7 @@ module _ (w : Workspace) (v : Valid w) (e : Equation) (before after : List ℕ) 
       proper : Proper (offered (state_of w) e)
       proper = proper_offered (state_of w) (shape_proper w.terms w.equations v.shape) e r.left_known r.right_known
 
-      go : (k : ℕ) → Verdict (offered (state_of w) e) k → said o.reply ≡ (book.answer (state_of w) (book.equate e (length before)) k).reply
+      go : (k : ℕ) → Verdict (offered (state_of w) e) k → said is_held o.reply ≡ (book.answer (state_of w) (book.equate e (length before)) k).reply
           → o.workspace ≡ packed (book.answer (state_of w) (book.equate e (length before)) k).state → OfferDecided (state_of w) e before after o.reply
       go k (clashes c) h x = by_clash (state_of w) e before after past o.reply h q.written (λ t. solution_no_clash (offered (state_of w) e) proper t c)
       go k (cycles n c) h x = by_cycle (state_of w) e before after past o.reply h q.written (λ t. solution_no_cycle (offered (state_of w) e) proper t c)

@@ -7,7 +7,7 @@ use Rattle.graph.specs.State.{State, empty_state, OneArity}
 use Rattle.graph.specs.Solution.{Solution}
 use Rattle.graph.specs.Book as book
 use Rattle.unifier.specs.Views.{Valid, state_of, packed, fresh_workspace}
-use Rattle.unifier.specs.Replies.{said}
+use Rattle.unifier.specs.Replies.{said, node_number, is_held, is_gone}
 use Rattle.unifier.specs.Answers.{Follows}
 use Rattle.unifier.specs.Equate.{Equates}
 use Rattle.unifier.specs.declared.Workspace.{Workspace}
@@ -25,9 +25,9 @@ record Step (w : Workspace) (c : LentCall) (r : Result) : Type 0 where
 
 module _ (w : Workspace) (v : Valid w) where
   -- a call that gives an `Outcome`
-  by_contract : (c : LentCall) (r : Result) (o : Outcome) (f : Follows w (fed c) o) → said_of r ≡ said o.reply → workspace_in r ≡ o.workspace
-      → Proved (state_of w) c r → Step w c r
-  by_contract c r o f x y q =
+  by_contract : {A : Type 0} (says : A → book.BookReply) (c : LentCall) (r : Result) (o : Outcome A) (f : Follows says w (fed c) o) → said_of r ≡ said says o.reply
+      → workspace_in r ≡ o.workspace → Proved (state_of w) c r → Step w c r
+  by_contract says c r o f x y q =
       let a : book.Transition = book.answer (state_of w) (fed c) f.number in
       let z : workspace_in r ≡ packed a.state = y ∙ f.workspace in
       let ok : Valid (workspace_in r) = subst Valid (sym y) f.valid in
@@ -38,12 +38,12 @@ module _ (w : Workspace) (v : Valid w) where
       }
 
   step : (c : LentCall) (r : Result) → Ran w c r → Step w c r
-  step c r (variable_declared {o} a) = by_contract c r o (a.follows v) refl refl tt
-  step c r (functor_declared {o = o} a) = by_contract c r o (a.follows v) refl refl tt
+  step c r (variable_declared {o} a) = by_contract node_number c r o (a.follows v) refl refl tt
+  step c r (functor_declared {o = o} a) = by_contract node_number c r o (a.follows v) refl refl tt
   step c r (equation_offered {e} {before} {after} {o} q) =
-      let f : Follows w (book.equate e (length before)) o = q.answers.follows v in
-      by_contract c r o f refl refl (shown_by (state_of w) e before after f.number o.reply f.refusal f.reply q.written)
-  step c r (withdrawn {n} {o} a) = by_contract c r o (a.follows v) refl refl tt
+      let f : Follows is_held w (book.equate e (length before)) o = q.answers.follows v in
+      by_contract is_held c r o f refl refl (shown_by (state_of w) e before after f.number o.reply f.refusal f.reply q.written)
+  step c r (withdrawn {n} {o} a) = by_contract is_gone c r o (a.follows v) refl refl tt
   step c r (all_cleared e) = record {
     number = 0;
     refusal = refl;

@@ -3,13 +3,13 @@
 --   Result      what it gives back
 --   Ran         one call: the record that the method's `ensures` cites (specs/Tied takes each `ensures` here)
 --   RanAll      a list: each call gets the workspace that the last one returned
---   fed         a call as document 01's book is fed it: without the workspace, a proof buffer by its length
+--   fed         a call as the book is fed it: without the workspace, a proof buffer by its length
 --   said_of     a reply as the book gives it, line counts aside
 use Rattle.std.specs.Prelude.{◌≡◌, List, [], ◌∷◌, ℕ, length}
 use Rattle.graph.specs.State.{variable, functor, Equation}
 use Rattle.graph.specs.Book as book
 use Rattle.unifier.specs.Views.{fresh_workspace}
-use Rattle.unifier.specs.Replies.{said}
+use Rattle.unifier.specs.Replies.{said, node_number, is_held, is_gone}
 use Rattle.unifier.specs.Answers.{Answers}
 use Rattle.unifier.specs.Equate.{Equates}
 use Rattle.unifier.specs.declared.Workspace.{Workspace}
@@ -24,20 +24,22 @@ pub data LentCall : Type 0 where
 
 -- equate gives back the lent bytes too
 pub data Result : Type 0 where
-  replied : Outcome → Result
-  wrote : Outcome → List ℕ → Result
+  numbered : Outcome ℕ → Result
+  struck : Outcome (Unit {0}) → Result
+  wrote : Outcome (Unit {0}) → List ℕ → Result
   cleared : Workspace → Result
 
 abbrev pub workspace_in : Result → Workspace
-workspace_in (replied o) = o.workspace
+workspace_in (numbered o) = o.workspace
+workspace_in (struck o) = o.workspace
 workspace_in (wrote o bytes) = o.workspace
 workspace_in (cleared w) = w
 
 pub data Ran (w : Workspace) : LentCall → Result → Type 0 where
-  variable_declared : {o : Outcome} → Answers w (book.declare variable) o → Ran w declare_variable (replied o)
-  functor_declared : {f : ℕ} {cs : List ℕ} {o : Outcome} → Answers w (book.declare (functor f cs)) o → Ran w (declare_functor f cs) (replied o)
-  equation_offered : {e : Equation} {before after : List ℕ} {o : Outcome} → Equates w e before after o → Ran w (equate e before) (wrote o after)
-  withdrawn : {n : ℕ} {o : Outcome} → Answers w (book.withdraw n) o → Ran w (withdraw n) (replied o)
+  variable_declared : {o : Outcome ℕ} → Answers node_number w (book.declare variable) o → Ran w declare_variable (numbered o)
+  functor_declared : {f : ℕ} {cs : List ℕ} {o : Outcome ℕ} → Answers node_number w (book.declare (functor f cs)) o → Ran w (declare_functor f cs) (numbered o)
+  equation_offered : {e : Equation} {before after : List ℕ} {o : Outcome (Unit {0})} → Equates w e before after o → Ran w (equate e before) (wrote o after)
+  withdrawn : {n : ℕ} {o : Outcome (Unit {0})} → Answers is_gone w (book.withdraw n) o → Ran w (withdraw n) (struck o)
   all_cleared : {v : Workspace} → v ≡ fresh_workspace → Ran w clear (cleared v)
 
 pub data RanAll : Workspace → List LentCall → List Result → Type 0 where
@@ -58,6 +60,7 @@ fed (withdraw n) = book.withdraw n
 fed clear = book.clear
 
 abbrev pub said_of : Result → book.BookReply
-said_of (replied o) = said o.reply
-said_of (wrote o bytes) = said o.reply
+said_of (numbered o) = said node_number o.reply
+said_of (struck o) = said is_gone o.reply
+said_of (wrote o bytes) = said is_held o.reply
 said_of (cleared w) = book.cleared

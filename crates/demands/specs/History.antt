@@ -6,7 +6,7 @@
 --   OfferDecided   its fate: taken with a solution, refused with a proof without one
 --   Faithful       the claim about one list; Demand3 the claim about all
 -- The book's run is unique: `runs_unique` of graph/proofs/BookLaws.
-use Rattle.std.specs.Prelude.{◌≡◌, false, List, [], ◌∷◌, map, ℕ, ◌*◌, ◌<◌, ◌≤◌, length, take}
+use Rattle.std.specs.Prelude.{◌≡◌, false, cond, List, [], ◌∷◌, map, ℕ, ◌*◌, ◌<◌, ◌≤◌, length, take, eqb, Result as Reply, Ok, Err}
 use Rattle.std.proofs.Math.Option.{some}
 use Rattle.graph.specs.Limits.{equation_limit, buffer_bytes}
 use Rattle.graph.specs.State.{Equation, State, empty_state, name_held, IsNode, OneArity, offered}
@@ -19,9 +19,10 @@ use Rattle.unifier.specs.Views.{Valid, state_of, packed, fresh_workspace}
 use Rattle.unifier.specs.Equate.{Equates}
 use Rattle.unifier.specs.Check.{check_reply}
 use Rattle.unifier.specs.declared.Outcome.{Outcome}
-use Rattle.unifier.specs.declared.Reply.{Reply}
-use Rattle.unifier.specs.declared.Reply.TheVariants.{Node, Held, Gone, Refused, Clash, Cycle}
-use Rattle.demands.specs.Calls.{LentCall, declare_variable, declare_functor, equate, withdraw, clear, Result, replied, wrote, cleared, RanAll, workspace_in, workspace_after, fed, said_of}
+use Rattle.refusals.specs.Numbers.{refusal_number, Brought, nothing, proof, place, brings}
+use Rattle.refusals.specs.declared.Refusal.{Refusal}
+use Rattle.refusals.specs.declared.Refusal.TheVariants.{Clash, Cycle}
+use Rattle.demands.specs.Calls.{LentCall, declare_variable, declare_functor, equate, withdraw, clear, Result, numbered, struck, wrote, cleared, RanAll, workspace_in, workspace_after, fed, said_of}
 
 -- s is the book's state, e the offered equation. `checked`: what the call `check` replies to just these lines
 pub record Shown (s : State) (e : Equation) (g : Goal) (n : ℕ) (before after : List ℕ) : Type 0 where
@@ -29,17 +30,20 @@ pub record Shown (s : State) (e : Equation) (g : Goal) (n : ℕ) (before after :
   pub checked : check_reply s (some e) g (take (8 * n) after) ≡ passed
   pub cites : Cites (offered s e) (first_lines n after)
 
-abbrev pub ShownBy : State → Equation → List ℕ → List ℕ → Reply → Type 0
-ShownBy s e before after (Clash n) = Shown s e clash_goal n before after
-ShownBy s e before after (Cycle n) = Shown s e cycle_goal n before after
-ShownBy s e before after (Node i) = after ≡ before
-ShownBy s e before after Held = after ≡ before
-ShownBy s e before after Gone = after ≡ before
-ShownBy s e before after (Refused k) = (after ≡ before) × (k < 8)
+-- k is a refusal's number
+abbrev pub ShownBeside : State → Equation → List ℕ → List ℕ → ℕ → Brought → Type 0
+ShownBeside s e before after k nothing = (after ≡ before) × (k < 8)
+ShownBeside s e before after k (proof n) = Shown s e (cond (eqb k 8) clash_goal cycle_goal) n before after
+ShownBeside s e before after k (place i) = ⊥
+
+abbrev pub ShownBy : State → Equation → List ℕ → List ℕ → Reply (Unit {0}) Refusal → Type 0
+ShownBy s e before after (Ok u) = after ≡ before
+ShownBy s e before after (Err r) = ShownBeside s e before after (refusal_number r) (brings r)
 
 abbrev pub Wrote : State → Equation → List ℕ → Result → Type 0
 Wrote s e before (wrote o after) = ShownBy s e before after o.reply
-Wrote s e before (replied o) = ⊥
+Wrote s e before (numbered o) = ⊥
+Wrote s e before (struck o) = ⊥
 Wrote s e before (cleared w) = ⊥
 
 -- an equate gives back the lent bytes, with a proof in them where it says 8 or 9
@@ -71,10 +75,10 @@ pub record Offerable (s : State) (e : Equation) (lent : List ℕ) : Type 0 where
   pub few : length s.equations < equation_limit
   pub buffer : buffer_bytes ≤ length lent
 
-pub data OfferDecided (s : State) (e : Equation) (before after : List ℕ) : Reply → Type 0 where
-  taken : Solution (offered s e) → OfferDecided s e before after Held
-  clash : {n : ℕ} → (Solution (offered s e) → ⊥) → Shown s e clash_goal n before after → OfferDecided s e before after (Clash n)
-  cycle : {n : ℕ} → (Solution (offered s e) → ⊥) → Shown s e cycle_goal n before after → OfferDecided s e before after (Cycle n)
+pub data OfferDecided (s : State) (e : Equation) (before after : List ℕ) : Reply (Unit {0}) Refusal → Type 0 where
+  taken : Solution (offered s e) → OfferDecided s e before after (Ok tt)
+  clash : {n : ℕ} → (Solution (offered s e) → ⊥) → Shown s e clash_goal n before after → OfferDecided s e before after (Err (Clash n))
+  cycle : {n : ℕ} → (Solution (offered s e) → ⊥) → Shown s e cycle_goal n before after → OfferDecided s e before after (Err (Cycle n))
 
 pub record Faithful (calls : List LentCall) (results : List Result) : Type 0 where
   -- the book's answers to the calls, and its two lists after them
@@ -87,10 +91,10 @@ pub record Faithful (calls : List LentCall) (results : List Result) : Type 0 whe
   pub lists : state_of (workspace_after fresh_workspace results) ≡ state
   pub valid : Valid (workspace_after fresh_workspace results)
   pub solvable : Solution state
-  -- document 02 (c)
+  -- functor nodes of one symbol have equally many children
   pub one_arity : OneArity state.nodes
   -- one more offered equation
-  pub decides : (e : Equation) (before after : List ℕ) (o : Outcome)
+  pub decides : (e : Equation) (before after : List ℕ) (o : Outcome (Unit {0}))
       → Offerable state e before → Equates (workspace_after fresh_workspace results) e before after o → OfferDecided state e before after o.reply
 
 abbrev pub Demand3 : Type 0

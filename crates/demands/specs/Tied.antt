@@ -6,7 +6,7 @@
 --   Beside   compare, class and check, which the book doesn't know
 --   Files    proof files, the reader of a proof, the shorter of two
 --   Stepwise an input's orders: what the theorem `Transcript` of eqtrace_session is about
-use Rattle.std.specs.Prelude.{◌≡◌, List, ℕ, ◌/◌, length}
+use Rattle.std.specs.Prelude.{◌≡◌, List, ℕ, ◌/◌, length, Option, Result}
 use contract.Lifetimes.{Lfts}
 use Rattle.std.specs.Borrow.{Bor, MutBor}
 use Rattle.graph.specs.State.{equation_of}
@@ -18,24 +18,23 @@ use Rattle.unifier.specs.Class.{Classifies}
 use Rattle.unifier.specs.Check.{Checks}
 use Rattle.unifier.specs.declared.Workspace.{Workspace}
 use Rattle.unifier.specs.declared.Outcome.{Outcome}
-use Rattle.unifier.specs.declared.Compared.{Compared}
-use Rattle.unifier.specs.declared.Classified.{Classified}
-use Rattle.unifier.specs.declared.Checked.{Checked}
-use Rattle.proof_rules.specs.declared.OfferAsked.{OfferAsked}
+use Rattle.refusals.specs.declared.Refusal.{Refusal}
+use Rattle.solve_classes.specs.declared.Figures.{Figures}
+use Rattle.unifier_respond.specs.declared.Standing.{Standing}
+use Rattle.proof_rules.specs.declared.Offer.{Offer}
 use Rattle.proof_check.specs.declared.GoalAsked.{GoalAsked}
 use Rattle.proof_file.specs.File.{file_refusal, lines_in}
 use Rattle.proof_file.specs.Promises.{read_reply, Writes}
-use Rattle.proof_file.specs.declared.WriteReply.{WriteReply}
-use Rattle.proof_file.specs.declared.ReadReply.{ReadReply}
 use Rattle.proof_reader.specs.Read.{step_at}
-use Rattle.proof_reader.specs.declared.Found.{Found}
+use Rattle.proof_lines.specs.declared.Line.{Line}
 use Rattle.proof_shorter.specs.Promises.{Chooses, Hands}
-use Rattle.proof_shorter.specs.declared.ShorterReply.{ShorterReply}
+use Rattle.proof_shorter.specs.declared.List.{List as Which}
+use Rattle.proof_shorter.specs.declared.NoChoice.{NoChoice}
 use Rattle.eqtrace_session.specs.Steps.{beginning, Steps}
 use Rattle.eqtrace_session.specs.declared.Cursor.{Cursor}
 use Rattle.eqtrace_session.specs.declared.Stepped.{Stepped}
 use Rattle.demands.specs.Calls as history
-use Rattle.demands.specs.Calls.{Ran, declare_variable, declare_functor, equate, replied, wrote, cleared}
+use Rattle.demands.specs.Calls.{Ran, declare_variable, declare_functor, equate, numbered, struck, wrote, cleared}
 use Rattle.unifier.proofs.Workspace.fresh.Reads as fresh
 use Rattle.unifier.proofs.Workspace.declare_variable.Reads as declare-variable
 use Rattle.unifier.proofs.Workspace.declare_functor.Reads as declare-functor
@@ -58,31 +57,31 @@ use Rattle.eqtrace_session.proofs.step.Reads as step
 
 pub record Tied : Type 0 where
   pub starts : (v : Workspace) → fresh.Post tt tt v tt → v ≡ fresh_workspace
-  pub declares_variable : (w : Workspace) (o : Outcome) (x : Workspace) → declare-variable.Post tt (w, tt) o (x, tt) → Ran w declare_variable (replied o)
-  pub declares_functor : (κs : Lfts 1) (w : Workspace) (f : ℕ) (cs : Bor (List ℕ)) (o : Outcome) (x : Workspace) (y : ℕ) (z : Bor (List ℕ))
-      → declare-functor.Post κs (w, (f, (cs, tt))) o (x, (y, (z, tt))) → Ran w (declare_functor f cs.now) (replied o)
-  pub withdraws : (w : Workspace) (n : ℕ) (o : Outcome) (x : Workspace) (y : ℕ) → withdraw.Post tt (w, (n, tt)) o (x, (y, tt)) → Ran w (history.withdraw n) (replied o)
-  pub offers : (κs : Lfts 1) (w : Workspace) (n l r : ℕ) (lent : MutBor (List ℕ)) (o : Outcome) (x : Workspace) (n' l' r' : ℕ) (left : MutBor (List ℕ))
+  pub declares_variable : (w : Workspace) (o : Outcome ℕ) (x : Workspace) → declare-variable.Post tt (w, tt) o (x, tt) → Ran w declare_variable (numbered o)
+  pub declares_functor : (κs : Lfts 1) (w : Workspace) (f : ℕ) (cs : Bor (List ℕ)) (o : Outcome ℕ) (x : Workspace) (y : ℕ) (z : Bor (List ℕ))
+      → declare-functor.Post κs (w, (f, (cs, tt))) o (x, (y, (z, tt))) → Ran w (declare_functor f cs.now) (numbered o)
+  pub withdraws : (w : Workspace) (n : ℕ) (o : Outcome (Unit {0})) (x : Workspace) (y : ℕ) → withdraw.Post tt (w, (n, tt)) o (x, (y, tt)) → Ran w (history.withdraw n) (struck o)
+  pub offers : (κs : Lfts 1) (w : Workspace) (n l r : ℕ) (lent : MutBor (List ℕ)) (o : Outcome (Unit {0})) (x : Workspace) (n' l' r' : ℕ) (left : MutBor (List ℕ))
       → equate-call.Post κs (w, (n, (l, (r, (lent, tt))))) o (x, (n', (l', (r', (left, tt))))) → Ran w (equate (equation_of n l r) lent.now) (wrote o left.now)
   pub clears : (w v x : Workspace) → clear.Post tt (w, tt) v (x, tt) → Ran w history.clear (cleared v)
 
 pub record Beside : Type 0 where
-  pub compares : (κs : Lfts 1) (w : Workspace) (u v : ℕ) (lent : MutBor (List ℕ)) (r : Compared) (x : Workspace) (u' v' : ℕ) (left : MutBor (List ℕ))
+  pub compares : (κs : Lfts 1) (w : Workspace) (u v : ℕ) (lent : MutBor (List ℕ)) (r : Outcome Standing) (x : Workspace) (u' v' : ℕ) (left : MutBor (List ℕ))
       → compare.Post κs (w, (u, (v, (lent, tt)))) r (x, (u', (v', (left, tt)))) → Compares w u v lent.now left.now r
-  pub classifies : (w : Workspace) (u : ℕ) (r : Classified) (x : Workspace) (y : ℕ) → class_of.Post tt (w, (u, tt)) r (x, (y, tt)) → Classifies w u r
-  pub checks : (κs : Lfts 1) (w : Workspace) (f : OfferAsked) (lines : Bor (List ℕ)) (g : GoalAsked) (r : Checked) (x : Workspace) (y : OfferAsked) (z : Bor (List ℕ)) (h : GoalAsked)
+  pub classifies : (w : Workspace) (u : ℕ) (r : Outcome Figures) (x : Workspace) (y : ℕ) → class_of.Post tt (w, (u, tt)) r (x, (y, tt)) → Classifies w u r
+  pub checks : (κs : Lfts 1) (w : Workspace) (f : Option Offer) (lines : Bor (List ℕ)) (g : GoalAsked) (r : Outcome (Unit {0})) (x : Workspace) (y : Option Offer) (z : Bor (List ℕ)) (h : GoalAsked)
       → check.Post κs (w, (f, (lines, (g, tt)))) r (x, (y, (z, (h, tt)))) → Checks w (offer_of f) (goal_of g) lines.now r
 
 pub record Files : Type 0 where
-  pub writes : (κs : Lfts 2) (lines : Bor (List ℕ)) (out : MutBor (List ℕ)) (r : WriteReply) (x : Bor (List ℕ)) (left : MutBor (List ℕ)) → file-write.Post κs (lines, (out, tt)) r (x, (left, tt))
+  pub writes : (κs : Lfts 2) (lines : Bor (List ℕ)) (out : MutBor (List ℕ)) (r : Result ℕ Refusal) (x : Bor (List ℕ)) (left : MutBor (List ℕ)) → file-write.Post κs (lines, (out, tt)) r (x, (left, tt))
       → Writes lines.now out.now left.now r
-  pub replies : (κs : Lfts 1) (file : Bor (List ℕ)) (r : ReadReply) (x : Bor (List ℕ)) → file-reply.Post κs (file, tt) r (x, tt) → r ≡ read_reply (file_refusal file.now)
+  pub replies : (κs : Lfts 1) (file : Bor (List ℕ)) (r : Result (Unit {0}) Refusal) (x : Bor (List ℕ)) → file-reply.Post κs (file, tt) r (x, tt) → r ≡ read_reply (file_refusal file.now)
   pub reads : (κs : Lfts 1) (file r x : Bor (List ℕ)) → file-read.Post κs (file, tt) r (x, tt) → r.now ≡ lines_in file.now
-  pub reads_line : (κs : Lfts 1) (lines : Bor (List ℕ)) (at : ℕ) (r : Found) (x : Bor (List ℕ)) (y : ℕ) → read-line.Post κs (lines, (at, tt)) r (x, (y, tt)) → r ≡ step_at lines.now at
+  pub reads_line : (κs : Lfts 1) (lines : Bor (List ℕ)) (at : ℕ) (r : Option Line × ℕ) (x : Bor (List ℕ)) (y : ℕ) → read-line.Post κs (lines, (at, tt)) r (x, (y, tt)) → r ≡ step_at lines.now at
   pub counts : (κs : Lfts 1) (lines : Bor (List ℕ)) (n : ℕ) (x : Bor (List ℕ)) → count-lines.Post κs (lines, tt) n (x, tt) → n ≡ length lines.now / 8
-  pub chooses : (κs : Lfts 2) (w : Workspace) (f : OfferAsked) (a b : Bor (List ℕ)) (g : GoalAsked) (r : ShorterReply) (x : Workspace) (y : OfferAsked) (z t : Bor (List ℕ)) (h : GoalAsked)
+  pub chooses : (κs : Lfts 2) (w : Workspace) (f : Option Offer) (a b : Bor (List ℕ)) (g : GoalAsked) (r : Result Which NoChoice) (x : Workspace) (y : Option Offer) (z t : Bor (List ℕ)) (h : GoalAsked)
       → shorter-reply.Post κs (w, (f, (a, (b, (g, tt))))) r (x, (y, (z, (t, (h, tt))))) → Chooses w (offer_of f) (goal_of g) a.now b.now r
-  pub hands : (κs : Lfts 1) (w : Workspace) (f : OfferAsked) (a b : Bor (List ℕ)) (g : GoalAsked) (r : Bor (List ℕ)) (x : Workspace) (y : OfferAsked) (z t : Bor (List ℕ)) (h : GoalAsked)
+  pub hands : (κs : Lfts 1) (w : Workspace) (f : Option Offer) (a b : Bor (List ℕ)) (g : GoalAsked) (r : Bor (List ℕ)) (x : Workspace) (y : Option Offer) (z t : Bor (List ℕ)) (h : GoalAsked)
       → shorter.Post κs (w, (f, (a, (b, (g, tt))))) r (x, (y, (z, (t, (h, tt))))) → Hands w (offer_of f) (goal_of g) a.now b.now r.now
 
 pub record Stepwise : Type 0 where

@@ -1,18 +1,16 @@
 -- The digits of a number, the last one first.
 use mathlib.Core.Path.{◌≡◌, refl, sym, ap, ap₂, ◌∙◌}
 use mathlib.Core.Bool.{Bool, true, false, cond}
-use mathlib.Core.List.{List, [], ◌∷◌, ◌++◌, append_assoc, append-nil}
+use mathlib.Core.List.{List, [], ◌∷◌, ◌++◌, append_assoc}
 use Prim.Native.Nat.{ℕ, zero, suc, ◌+◌, ◌*◌, ◌/◌, ◌%◌, ◌≤◌, ◌<◌}
 use native.Mathlib.Nat.{div-lt_iff_lt-mul, mod-eq_of_lt}
 use native.Mathlib.Numerals.{add-one}
 use native.Mathlib.Omega.{arith}
-use lib.ListN.{length, set, drop, length-set, drop_of_length-le}
+use lib.ListN.{length, set, drop, length-set}
 use lib.Seq.{drop-cons, drop-set-lt, get_or-set_same}
 use lib.Dec.{ltb}
 use borrow.Author.Tests.{lt-ltb, le-ltb}
 use Rattle.eqtrace_answers.specs.Text.{decimal_by, decimal}
-use Rattle.eqtrace_answers.specs.Puts.{DigitsShow}
-use Rattle.eqtrace_answers.specs.declared.Digits.{Digits}
 
 -- numbers of at most k + 1 digits
 abbrev pub limit : ℕ → ℕ
@@ -45,12 +43,6 @@ pub record Writing (n : ℕ) (bytes : List ℕ) (k x : ℕ) : Type 0 where
   pub place : k < 5
   pub small : x < limit k
   pub shown : decimal n ≡ decimal x ++ drop (k + 1) bytes
-
-pub writing_none : (n : ℕ) (bytes : List ℕ) → n < 100000 → length bytes ≡ 5 → Writing n bytes 4 n
-writing_none n bytes h s =
-    let l : length bytes ≤ 5 = omega arith in
-    let e : drop 5 bytes ≡ [] = drop_of_length-le bytes l in
-    record { size = s; place = omega arith; small = h; shown = sym (ap (λ (r : List ℕ). decimal n ++ r) e ∙ append-nil (decimal n)) }
 
 stored : (l : List ℕ) (k x : ℕ) → k < length l → drop k (set l k x) ≡ x ∷ drop (k + 1) l
 stored l k x h =
@@ -90,12 +82,8 @@ module _ (n : ℕ) (bytes : List ℕ) (k x : ℕ) (r : Writing n bytes k x) wher
             ∙ ap (λ (l : List ℕ). decimal (x / 10) ++ l) (sym t);
       }
 
-  pub writing_last : x < 10 → (d : ℕ) → d ≡ 48 + x % 10 → (o : Digits) → o.bytes ≡ set bytes k d → o.from ≡ k → DigitsShow n o
-  writing_last h d q o b f =
+  pub writing_last : x < 10 → (d : ℕ) → d ≡ 48 + x % 10 → drop k (set bytes k d) ≡ decimal n
+  writing_last h d q =
       let m : x % 10 ≡ x = mod-eq_of_lt h in
       let t : drop k (set bytes k d) ≡ (48 + x) ∷ drop (k + 1) bytes = stored bytes k d (omega (arith, r.size, r.place)) ∙ ap (λ (y : ℕ). y ∷ drop (k + 1) bytes) (q ∙ ap (λ (y : ℕ). 48 + y) m) in
-      record {
-        size = ap length b ∙ length-set bytes k d ∙ r.size;
-        start = omega (arith, f, r.place);
-        digits = ap₂ (λ (i : ℕ) (l : List ℕ). drop i l) f b ∙ t ∙ sym (r.shown ∙ ap (λ (l : List ℕ). l ++ drop (k + 1) bytes) (decimal_one x h));
-      }
+      t ∙ sym (r.shown ∙ ap (λ (l : List ℕ). l ++ drop (k + 1) bytes) (decimal_one x h))

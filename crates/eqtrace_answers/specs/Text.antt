@@ -1,4 +1,4 @@
--- Replies as text (document 01, "The program `eqtrace`"): one line each, numbers in decimal, cited names rising after 8, 9, same, below and above.
+-- Replies as text: one line each, numbers in decimal, cited names rising after 8, 9, same, below and above.
 --   decimal   a number's digits
 --   Output    what the program says of one order
 --   text_of   its bytes, with the line break

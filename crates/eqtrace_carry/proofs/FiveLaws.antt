@@ -12,6 +12,7 @@ use borrow.Author.Tests.{lt-ltb, ltb-true, ltb-false, ne_eqb}
 use Rattle.graph.specs.State.{State, functor}
 use Rattle.graph.specs.Book as book
 use Rattle.unifier.specs.Views.{state_of, packed}
+use Rattle.unifier.specs.Replies.{node_number}
 use Rattle.unifier.specs.Answers.{Answers, Follows}
 use Rattle.unifier.specs.declared.Workspace.{Workspace}
 use Rattle.unifier.specs.declared.Outcome.{Outcome}
@@ -33,8 +34,8 @@ other_late false L M k e = e
 answers_agree : (s : State) (c d : book.Call) (k : ℕ) → (k ≡ 0 → ⊥) → book.answer s c k ≡ book.answer s d k
 answers_agree s c d k n = rw (ne_eqb k 0 n)
 
-module _ (w : Workspace) (f : ℕ) (cs : List ℕ) (o : Outcome) where
-  more_follows : 5 < length cs → Follows w (book.declare (functor f (first_five cs))) o → Follows w (book.declare (functor f cs)) o
+module _ (w : Workspace) (f : ℕ) (cs : List ℕ) (o : Outcome ℕ) where
+  more_follows : 5 < length cs → Follows node_number w (book.declare (functor f (first_five cs))) o → Follows node_number w (book.declare (functor f cs)) o
   more_follows h F =
       let s : State = state_of w in
       let k : ℕ = F.number in
@@ -53,9 +54,9 @@ module _ (w : Workspace) (f : ℕ) (cs : List ℕ) (o : Outcome) where
         valid = F.valid;
       }
 
-  pub five_answers : Answers w (book.declare (functor f (first_five cs))) o → Answers w (book.declare (functor f cs)) o
+  pub five_answers : Answers node_number w (book.declare (functor f (first_five cs))) o → Answers node_number w (book.declare (functor f cs)) o
   five_answers A = go (ltb 5 (length cs)) refl
     where
-      go : (b : Bool) → ltb 5 (length cs) ≡ b → Answers w (book.declare (functor f cs)) o
+      go : (b : Bool) → ltb 5 (length cs) ≡ b → Answers node_number w (book.declare (functor f cs)) o
       go true e = record { refuses = A.refuses; follows = λ v. more_follows (ltb-true 5 (length cs) e) (A.follows v) }
-      go false e = let q : first_five cs ≡ cs = take_all 5 cs (ltb-false 5 (length cs) e) in subst (λ (x : List ℕ). Answers w (book.declare (functor f x)) o) q A
+      go false e = let q : first_five cs ≡ cs = take_all 5 cs (ltb-false 5 (length cs) e) in subst (λ (x : List ℕ). Answers node_number w (book.declare (functor f x)) o) q A

@@ -3,18 +3,20 @@
 // the line break.
 #![tactic(auto)]
 
-ghost use Rattle.std.specs.Prelude.{◌≡◌, List, ℕ, ◌*◌, ◌≤◌, ◌<◌, length, take};
+ghost use Rattle.std.specs.Prelude.{◌≡◌, List, ℕ, ◌*◌, ◌≤◌, ◌<◌, length};
 ghost use Rattle.std.proofs.Math.Option.{none, some};
 ghost use Rattle.graph.specs.Limits.{line_limit, buffer_bytes};
 ghost use Rattle.eqtrace_orders.specs.Grammar.{order_of};
 ghost use Rattle.eqtrace_orders.specs.Grammar as order;
+ghost use Rattle.refusals.specs.Numbers.{brings};
+ghost use Rattle.eqtrace_answers.specs.Text.{node};
 ghost use Rattle.eqtrace_answers.specs.Puts.{Small, answer_room};
 ghost use Rattle.eqtrace_carry.specs.Carried.{Carries};
-ghost use Rattle.eqtrace_carry.specs.Inner.{reply_lines, comparison_lines, answered, comparison_answered, Means, CitesIn, Telling, Replying, Declares};
+ghost use Rattle.eqtrace_carry.specs.Inner.{brought_lines, stance_lines, stance_answered, Means, CitesIn, Telling, Replying, Declares};
 
 use eqtrace_answers::Answer;
-use eqtrace_orders::Command;
-use unifier::{Comparison, Outcome, Reply, Workspace};
+use eqtrace_orders::Order;
+use unifier::{Outcome, Refusal, Standing, Workspace};
 
 // The workspace after an order, how many bytes its answer has, and whether it was refused.
 #[derive(Clone, Copy)]
@@ -24,102 +26,67 @@ pub struct Carried {
     pub refused: bool,
 }
 
-// What is said of a reply, names aside.
-fn plain_answer(reply: Reply, name: u16) -> Answer
-    ensures { Means (answered name reply) result }
+// How many proof lines come with a refusal.
+fn refusal_lines(r: Refusal) -> usize
+    ensures { result ≡ brought_lines (brings r) }
 {
-    match reply {
-        Reply::Node(i) => Answer::Node(i),
-        Reply::Held => Answer::Held(name),
-        Reply::Gone => Answer::Gone(name),
-        Reply::Refused(k) => Answer::Refused(k),
-        Reply::Clash(_) => Answer::Refused(8),
-        Reply::Cycle(_) => Answer::Refused(9),
+    match r {
+        Refusal::Clash { lines } | Refusal::Cycle { lines } => usize::from(lines),
+        _ => 0,
     }
 }
 
-// How many proof lines a reply has.
-fn reply_lines(reply: Reply) -> usize
-    ensures { result ≡ reply_lines reply }
+// What is said of how two nodes stand, names aside.
+fn stance_answer(s: Standing) -> Answer
+    ensures { Means (stance_answered s) result }
 {
-    match reply {
-        Reply::Node(_) => 0,
-        Reply::Held => 0,
-        Reply::Gone => 0,
-        Reply::Refused(_) => 0,
-        Reply::Clash(n) => n as usize,
-        Reply::Cycle(n) => n as usize,
+    match s {
+        Standing::Same(_) => Answer::Same,
+        Standing::Below(_) => Answer::Below,
+        Standing::Above(_) => Answer::Above,
+        Standing::Apart => Answer::Apart,
     }
 }
 
-// What is said of a comparison, names aside.
-fn comparison_answer(reply: Comparison) -> Answer
-    ensures { Means (comparison_answered reply) result }
+fn stance_lines(s: Standing) -> usize
+    ensures { result ≡ stance_lines s }
 {
-    match reply {
-        Comparison::Same(_) => Answer::Same,
-        Comparison::Below(_) => Answer::Below,
-        Comparison::Above(_) => Answer::Above,
-        Comparison::Apart => Answer::Apart,
-        Comparison::Refused(k) => Answer::Refused(k),
-    }
-}
-
-fn comparison_lines(reply: Comparison) -> usize
-    ensures { result ≡ comparison_lines reply }
-{
-    match reply {
-        Comparison::Same(n) => n as usize,
-        Comparison::Below(n) => n as usize,
-        Comparison::Above(n) => n as usize,
-        Comparison::Apart => 0,
-        Comparison::Refused(_) => 0,
+    match s {
+        Standing::Same(n) | Standing::Below(n) | Standing::Above(n) => usize::from(n),
+        Standing::Apart => 0,
     }
 }
 
 // The names that the last of `n` lines rests on, none where there is no line.
-fn cite<'a>(proof: &'a [u8], n: usize, names: &mut [u16]) -> usize
+fn cite<'n>(proof: &[u8], n: usize, names: &'n mut [u16]) -> &'n [u16]
     requires { (8 * n ≤ length proof.now) × (n ≤ line_limit) × (length names.old ≡ line_limit) }
-    ensures { CitesIn n proof.now names.new result }
+    ensures { CitesIn n proof.now result.now }
 {
     if n == 0 {
-        return 0;
+        return &[];
     }
-    let e = 8 * n;
-    proof_cited::cited_names(&proof[0..e], names)
+    proof_cited::cited_names(&proof[..8 * n], names)
 }
 
 // The answer's text, with the names that the first `n` lines cite.
-fn tell<'a>(
+fn tell(
     w: Workspace,
     answer: Answer,
     n: usize,
-    proof: &'a [u8],
+    proof: &[u8],
     names: &mut [u16],
     out: &mut [u8],
 ) -> Carried
     requires { Small answer × (8 * n ≤ length proof.now) × (n ≤ line_limit) × (length names.old ≡ line_limit) × (answer_room ≤ length out.old) }
     ensures { Telling w answer n proof.now out.old out.new result }
 {
-    let refused = eqtrace_script::is_refusal(answer);
-    let k = cite(proof, n, names);
-    let length = eqtrace_answers::say(out, answer, names, k);
+    let cited = cite(proof, n, names);
+    let length = eqtrace_answers::say(out, answer, cited);
     Carried {
         workspace: w,
-        length: length,
-        refused: refused,
+        length,
+        refused: eqtrace_script::is_refusal(answer),
     }
-}
-
-// What is said of a call that writes no proof.
-fn tell_reply(o: Outcome, name: u16, names: &mut [u16], out: &mut [u8]) -> Carried
-    requires { (length names.old ≡ line_limit) × (answer_room ≤ length out.old) }
-    ensures { Replying o name out.old out.new result }
-{
-    let reply = o.reply;
-    let w = o.workspace;
-    let answer = plain_answer(reply, name);
-    tell(w, answer, 0, b"", names, out)
 }
 
 // The answer to an order that can't be read.
@@ -127,31 +94,38 @@ pub fn unreadable(w: Workspace, i: u32, names: &mut [u16], out: &mut [u8]) -> Ca
     requires { (i < 100000) × (length names.old ≡ line_limit) × (answer_room ≤ length out.old) }
     ensures { (proof : List ℕ) → Carries w i none proof proof out.old out.new result }
 {
-    tell(w, Answer::Unreadable(i), 0, b"", names, out)
+    tell(w, Answer::Unreadable(i), 0, &[], names, out)
+}
+
+// A declaration's answer: the node's number.
+fn tell_node(o: Outcome<u8>, names: &mut [u16], out: &mut [u8]) -> Carried
+    requires { (length names.old ≡ line_limit) × (answer_room ≤ length out.old) }
+    ensures { Replying o node out.old out.new result }
+{
+    match o.reply {
+        Ok(u) => tell(o.workspace, Answer::Node(u), 0, &[], names, out),
+        Err(r) => tell(o.workspace, Answer::Refused(r), 0, &[], names, out),
+    }
 }
 
 fn carry_variable(w: Workspace, names: &mut [u16], out: &mut [u8]) -> Carried
     requires { (length names.old ≡ line_limit) × (answer_room ≤ length out.old) }
     ensures { (i : ℕ) (proof : List ℕ) → Carries w i (some order.variable) proof proof out.old out.new result }
 {
-    let o = w.declare_variable();
-    tell_reply(o, 0, names, out)
+    tell_node(w.declare_variable(), names, out)
 }
 
-// `k` of the children count.
-fn carry_functor<'a>(
+fn carry_functor(
     w: Workspace,
     symbol: u16,
-    children: &'a [u16],
-    k: usize,
+    children: &[u16],
     names: &mut [u16],
     out: &mut [u8],
 ) -> Carried
-    requires { (k ≤ length children.now) × (length names.old ≡ line_limit) × (answer_room ≤ length out.old) }
-    ensures { Declares w symbol (take k children.now) out.old out.new result }
+    requires { (length names.old ≡ line_limit) × (answer_room ≤ length out.old) }
+    ensures { Declares w symbol children.now out.old out.new result }
 {
-    let o = w.declare_functor(symbol, &children[0..k]);
-    tell_reply(o, 0, names, out)
+    tell_node(w.declare_functor(symbol, children), names, out)
 }
 
 fn carry_withdraw(w: Workspace, name: u16, names: &mut [u16], out: &mut [u8]) -> Carried
@@ -159,7 +133,10 @@ fn carry_withdraw(w: Workspace, name: u16, names: &mut [u16], out: &mut [u8]) ->
     ensures { (i : ℕ) (proof : List ℕ) → Carries w i (some (order.withdraw name)) proof proof out.old out.new result }
 {
     let o = w.withdraw(name);
-    tell_reply(o, name, names, out)
+    match o.reply {
+        Ok(()) => tell(o.workspace, Answer::Gone(name), 0, &[], names, out),
+        Err(r) => tell(o.workspace, Answer::Refused(r), 0, &[], names, out),
+    }
 }
 
 fn carry_equate(
@@ -175,11 +152,17 @@ fn carry_equate(
     ensures { (i : ℕ) → Carries w i (some (order.equate name left right)) proof.old proof.new out.old out.new result }
 {
     let o = w.equate(name, left, right, proof);
-    let reply = o.reply;
-    let v = o.workspace;
-    let n = reply_lines(reply);
-    let answer = plain_answer(reply, name);
-    tell(v, answer, n, proof, names, out)
+    match o.reply {
+        Ok(()) => tell(o.workspace, Answer::Held(name), 0, proof, names, out),
+        Err(r) => tell(
+            o.workspace,
+            Answer::Refused(r),
+            refusal_lines(r),
+            proof,
+            names,
+            out,
+        ),
+    }
 }
 
 fn carry_query(
@@ -194,17 +177,23 @@ fn carry_query(
     ensures { (i : ℕ) → Carries w i (some (order.query x y)) proof.old proof.new out.old out.new result }
 {
     let o = w.compare(x, y, proof);
-    let reply = o.reply;
-    let v = o.workspace;
-    let n = comparison_lines(reply);
-    let answer = comparison_answer(reply);
-    tell(v, answer, n, proof, names, out)
+    match o.reply {
+        Ok(s) => tell(
+            o.workspace,
+            stance_answer(s),
+            stance_lines(s),
+            proof,
+            names,
+            out,
+        ),
+        Err(r) => tell(o.workspace, Answer::Refused(r), 0, proof, names, out),
+    }
 }
 
 // One order: its line, its number from 1, and the buffers of proof, names and answer.
-pub fn carry_out<'a>(
+pub fn carry_out(
     w: Workspace,
-    line: &'a [u8],
+    line: &[u8],
     i: u32,
     proof: &mut [u8],
     names: &mut [u16],
@@ -213,15 +202,22 @@ pub fn carry_out<'a>(
     requires { (i < 100000) × (length proof.old ≡ buffer_bytes) × (length names.old ≡ line_limit) × (answer_room ≤ length out.old) }
     ensures { Carries w i (order_of line.now) proof.old proof.new out.old out.new result }
 {
-    let p = eqtrace_orders::parse(line);
-    let command = p.command;
-    let children = p.children;
-    match command {
-        Command::Unreadable => unreadable(w, i, names, out),
-        Command::Variable => carry_variable(w, names, out),
-        Command::Functor(f, k) => carry_functor(w, f, &children, k, names, out),
-        Command::Equate(n, x, y) => carry_equate(w, n, x, y, proof, names, out),
-        Command::Withdraw(n) => carry_withdraw(w, n, names, out),
-        Command::Query(x, y) => carry_query(w, x, y, proof, names, out),
+    let Some(order) = eqtrace_orders::parse(line) else {
+        return unreadable(w, i, names, out);
+    };
+    match order {
+        Order::Variable => carry_variable(w, names, out),
+        Order::Functor { symbol, children } => carry_functor(
+            w,
+            symbol,
+            children.as_slice(),
+            names,
+            out,
+        ),
+        Order::Equate { name, left, right } => carry_equate(
+            w, name, left, right, proof, names, out,
+        ),
+        Order::Withdraw { name } => carry_withdraw(w, name, names, out),
+        Order::Query { left, right } => carry_query(w, left, right, proof, names, out),
     }
 }

@@ -6,41 +6,31 @@ use Prim.Native.Nat.{ℕ, suc, ◌+◌, ◌-◌, ◌≤◌, ◌<◌}
 use native.Mathlib.Numerals.{add-one}
 use native.Mathlib.Omega.{arith}
 use lib.ListN.{length, get_or, take, drop, drop_of_length-le}
-use lib.Seq.{drop-drop}
+use lib.Seq.{drop-cons, drop-drop}
 use lib.Dec.{eqb}
-use borrow.Author.Tests.{eq-eqb, ne_eqb}
-use Rattle.eqtrace_orders.specs.Grammar.{split, drop_last, orders_in}
-use Rattle.eqtrace_orders.specs.Input.{first_line, EndsAt}
-use Rattle.eqtrace_orders.proofs.ScanLaws.{drop_here, after_part, split_part}
+use Rattle.eqtrace_orders.specs.Grammar.{on_first, split, drop_last, orders_in}
+use Rattle.eqtrace_orders.specs.Input.{first_to, first_line, EndsAt}
 use Rattle.base.proofs.AbsurdLaws.{zero_is_one}
 
--- ---- the end of an order
+drop_here : (l : List ℕ) (i : ℕ) → i < length l → drop i l ≡ get_or l i 0 ∷ drop (i + 1) l
+drop_here l i h = rw add-one (drop-cons l i 0 h)
 
--- the search has come to i
-pub record Seeking (l : List ℕ) (at i : ℕ) : Type 0 where
-  pub inside : i ≤ length l
-  pub same : at + length (first_line (drop at l)) ≡ i + length (first_line (drop i l))
+-- ---- parts
 
-module _ (l : List ℕ) (at : ℕ) where
-  pub seeking_none : at ≤ length l → Seeking l at at
-  seeking_none h = record { inside = h; same = refl }
+-- the parts after the first
+abbrev after_part : ℕ → List ℕ → List (List ℕ)
+after_part k [] = []
+after_part k (x ∷ xs) = split k xs
 
-  module _ (i : ℕ) (r : Seeking l at i) where
-    pub seeking_more : i < length l → (get_or l i 0 ≡ 10 → ⊥) → Seeking l at (i + 1)
-    seeking_more h n =
-        let e : first_line (drop i l) ≡ get_or l i 0 ∷ first_line (drop (i + 1) l) = ap first_line (drop_here l i h) ∙ rw (ne_eqb (get_or l i 0) 10 n) in
-        record { inside = omega arith; same = r.same ∙ omega (arith, ap length e) }
-
-    found : first_line (drop i l) ≡ [] → EndsAt l at i
-    found e = record { end_at = sym (r.same ∙ omega (arith, ap length e)); inside = r.inside }
-
-    pub seeking_break : i < length l → get_or l i 0 ≡ 10 → EndsAt l at i
-    seeking_break h n =
-        let e : first_line (drop i l) ≡ [] = ap first_line (drop_here l i h) ∙ rw (eq-eqb (get_or l i 0) 10 n) in
-        found e
-
-    pub seeking_all : length l ≤ i → EndsAt l at i
-    seeking_all h = found (ap first_line (drop_of_length-le l h))
+-- cut at the byte k
+split_part : (k : ℕ) (l : List ℕ) → split k l ≡ first_to k l ∷ after_part k (drop (length (first_to k l)) l)
+split_part k [] = refl
+split_part k (x ∷ xs) = go (eqb x k) (split_part k xs)
+  where
+    go : (b : Bool) → split k xs ≡ first_to k xs ∷ after_part k (drop (length (first_to k xs)) xs)
+        → cond b ([] ∷ split k xs) (on_first x (split k xs)) ≡ cond b [] (x ∷ first_to k xs) ∷ after_part k (drop (length (cond b [] (x ∷ first_to k xs))) (x ∷ xs))
+    go true e = refl
+    go false e = ap (on_first x) e
 
 -- ---- the orders
 
@@ -71,9 +61,6 @@ parts f l = go (split 10 l) (first_line l) (after_part 10 (drop (length (first_l
   where
     go : (p : List (List ℕ)) (w : List ℕ) (ws : List (List ℕ)) → p ≡ w ∷ ws → drop_last (f ∷ p) ≡ f ∷ drop_last p
     go p w ws e = rw e
-
-last_one : (x : ℕ) (l : List ℕ) → drop_last ((x ∷ l) ∷ []) ≡ (x ∷ l) ∷ []
-last_one x l = refl
 
 pub orders_some : (x : ℕ) (l : List ℕ) → orders_in (x ∷ l) ≡ first_line (x ∷ l) ∷ orders_in (drop (suc (length (first_line (x ∷ l)))) (x ∷ l))
 unfolding orders_in

@@ -1,5 +1,4 @@
 -- Laws of orders as bytes.
-pub mod ScanLaws
-pub mod CollectLaws
-pub mod ParseLaws
+pub mod WordLaws
+pub mod LetterLaws
 pub mod InputLaws

@@ -1,7 +1,7 @@
--- The grammar of orders (document 01, "The program `eqtrace`"): one a line, single spaces, decimal without leading zeros, numbers to 65,535.
+-- The grammar of orders: one a line, single spaces, decimal without leading zeros, numbers to 65,535.
 --   Order       V; F symbol children; E name left right; W name; Q u v
 --   split       bytes cut at each occurrence of one byte: orders at 10, words at 32
---   number_of   a word as a number; none where it isn't one
+--   number_in   a word as a number; none where it isn't one
 --   order_of    a line's bytes as an order; none where it can't be read (refusal 16)
 --   orders_in   the lines of an input: only byte 10 breaks a line, and a final line break may be missing
 use Rattle.std.specs.Prelude.{Bool, ◌&&◌, cond, List, [], ◌∷◌, ℕ, ◌+◌, ◌-◌, ◌*◌, eqb, leb}
@@ -38,14 +38,14 @@ digits_from v [] = some v
 digits_from v (x ∷ xs) = cond (is_digit x && leb (v * 10 + (x - 48)) 65535) (digits_from (v * 10 + (x - 48)) xs) none
 
 -- a number has a digit, and a leading zero only as the whole of it
-abbrev pub number_of : List ℕ → Option ℕ
-number_of [] = none
-number_of (x ∷ []) = digits_from 0 (x ∷ [])
-number_of (x ∷ (y ∷ ys)) = cond (eqb x 48) none (digits_from 0 (x ∷ (y ∷ ys)))
+abbrev pub number_in : List ℕ → Option ℕ
+number_in [] = none
+number_in (x ∷ []) = digits_from 0 (x ∷ [])
+number_in (x ∷ (y ∷ ys)) = cond (eqb x 48) none (digits_from 0 (x ∷ (y ∷ ys)))
 
 abbrev pub numbers_of : List (List ℕ) → Option (List ℕ)
 numbers_of [] = some []
-numbers_of (w ∷ ws) = try (number_of w) (λ n. try (numbers_of ws) (λ ns. some (n ∷ ns)))
+numbers_of (w ∷ ws) = try (number_in w) (λ n. try (numbers_of ws) (λ ns. some (n ∷ ns)))
 
 -- ---- orders
 

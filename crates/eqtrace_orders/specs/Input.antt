@@ -1,8 +1,13 @@
+-- Input
 -- The orders of an input, one after the other: what a step from a place of the input finds.
+--   first_to     the bytes before the first occurrence of a byte
 --   first_line   the bytes to the first line break
 --   EndsAt       the order from a place on ends there: at the next byte 10, or where the input ends
-use Rattle.std.specs.Prelude.{◌≡◌, List, ℕ, ◌+◌, ◌≤◌, length, drop}
-use Rattle.eqtrace_orders.specs.Scan.{first_to}
+use Rattle.std.specs.Prelude.{◌≡◌, cond, List, [], ◌∷◌, ℕ, ◌+◌, ◌≤◌, length, drop, eqb}
+
+abbrev pub first_to : ℕ → List ℕ → List ℕ
+first_to b [] = []
+first_to b (x ∷ xs) = cond (eqb x b) [] (x ∷ first_to b xs)
 
 abbrev pub first_line : List ℕ → List ℕ
 first_line l = first_to 10 l

@@ -1,5 +1,5 @@
+-- Lib
 -- Orders as bytes.
 pub mod Grammar
-pub mod Scan
 pub mod Input
 pub mod Parse

@@ -1,33 +1,42 @@
+-- Parse
 -- What the parser gives for a line, in the terms of the grammar.
+--   handed_on    what the grammar finds, as the code hands it on
 --   first_five   the children that are handed on: the book's answer to more than four doesn't depend on the rest
---   Gives        the code's command for an order of the grammar, or that the line can't be read (refusal 16)
---   Parses       the same for a line
-use Rattle.std.specs.Prelude.{◌≡◌, List, ℕ, length, take}
-use Rattle.std.proofs.Math.Option.{Option, none, some}
-use Rattle.eqtrace_orders.specs.Grammar.{Order, variable, functor, equate, withdraw, query, order_of, by_letter}
-use Rattle.eqtrace_orders.specs.Scan.{Collected}
-use Rattle.eqtrace_orders.specs.declared.Numbers.{Numbers}
-use Rattle.eqtrace_orders.specs.declared.Parsed.{Parsed}
-use Rattle.eqtrace_orders.specs.declared.Command.TheVariants as command
+--   as_code      an order of the grammar in the code's terms
+--   order_found  the same where there may be none: then the line can't be read (refusal 16)
+--   words_found  the words as numbers, the first six; none where one is no number
+--   Parses       the parser's answer for a line
+use Rattle.std.specs.Prelude.{◌≡◌, List, ℕ, take, Option, Some, None}
+use Rattle.std.proofs.Math.Option as math
+use Rattle.eqtrace_orders.specs.Grammar as grammar
+use Rattle.eqtrace_orders.specs.Grammar.{split, numbers_of, order_of}
+use Rattle.eqtrace_orders.specs.declared.Order.{Order}
+use Rattle.eqtrace_orders.specs.declared.Order.TheVariants.{Variable, Functor, Equate, Withdraw, Query}
+
+abbrev pub handed_on : {A : Type 0} → math.Option A → Option A
+handed_on math.none = None
+handed_on (math.some x) = Some x
 
 abbrev pub first_five : List ℕ → List ℕ
 first_five cs = take 5 cs
 
-pub record Children (cs : List ℕ) (children : List ℕ) : Type 0 where
-  pub size : length children ≡ 5
-  pub first : take (length (first_five cs)) children ≡ first_five cs
+abbrev pub as_code : grammar.Order → Order
+as_code grammar.variable = Variable
+as_code (grammar.functor f cs) = Functor f (first_five cs)
+as_code (grammar.equate n u v) = Equate n u v
+as_code (grammar.withdraw n) = Withdraw n
+as_code (grammar.query u v) = Query u v
 
-abbrev pub Gives : Option Order → Parsed → Type 0
-Gives none p = p.command ≡ command.Unreadable
-Gives (some variable) p = p.command ≡ command.Variable
-Gives (some (functor f cs)) p = (p.command ≡ command.Functor f (length (first_five cs))) × Children cs p.children
-Gives (some (equate n u v)) p = p.command ≡ command.Equate n u v
-Gives (some (withdraw n)) p = p.command ≡ command.Withdraw n
-Gives (some (query u v)) p = p.command ≡ command.Query u v
+abbrev pub order_found : math.Option grammar.Order → Option Order
+order_found math.none = None
+order_found (math.some o) = Some (as_code o)
 
-abbrev pub Parses : List ℕ → Parsed → Type 0
-Parses line p = Gives (order_of line) p
+abbrev pub six_of : math.Option (List ℕ) → Option (List ℕ)
+six_of math.none = None
+six_of (math.some ns) = Some (take 6 ns)
 
--- by the letter and the numbers after it
-abbrev pub ByLetter : ℕ → Numbers → Parsed → Type 0
-ByLetter x ns p = (l : List ℕ) → Collected l ns → Gives (by_letter x l) p
+abbrev pub words_found : List ℕ → Option (List ℕ)
+words_found words = six_of (numbers_of (split 32 words))
+
+abbrev pub Parses : List ℕ → Option Order → Type 0
+Parses line r = r ≡ order_found (order_of line)

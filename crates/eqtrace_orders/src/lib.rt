@@ -1,255 +1,144 @@
-// An order's bytes to a command.
+// An order's bytes to an order.
 #![tactic(auto)]
 
-ghost use Rattle.std.specs.Prelude.{◌≡◌, true, cond, ltb, ◌-◌, ◌≤◌, length, drop};
-ghost use Rattle.eqtrace_orders.specs.Grammar.{is_digit};
-ghost use Rattle.eqtrace_orders.specs.Scan.{Scans, in_word, IsNumber, KeepsOne, Collects};
-ghost use Rattle.eqtrace_orders.specs.Parse.{Parses, ByLetter};
+ghost use Rattle.std.specs.Prelude.{◌≡◌, [], ◌∷◌, ◌++◌, ◌≤◌, ◌<◌, length, take};
+ghost use Rattle.eqtrace_orders.specs.Grammar.{digits_from, number_in, by_letter};
+ghost use Rattle.eqtrace_orders.specs.Parse.{handed_on, words_found, order_found, Parses};
 
-// A number, and the place after its last digit; or that no number stands there.
-#[derive(Clone, Copy)]
-pub enum Scanned {
-    Number(u16, usize),
-    Bad,
-}
+use std::marker::Model;
 
-fn is_digit(x: u8) -> bool
-    ensures { result ≡ is_digit x }
-{
-    if x < 48 {
-        return false;
-    }
-    x <= 57
-}
-
-// A word goes on to the line's end or to a space.
-fn in_word(line: &[u8], at: usize) -> bool
-    ensures { result ≡ in_word (drop at line.now) }
-{
-    if line.len() <= at {
-        return false;
-    }
-    line[at] != b' '
-}
-
-fn digit_value(x: u8) -> u32
-    requires { is_digit x ≡ true }
-    ensures { (result ≡ x - 48) × (result ≤ 9) }
-{
-    (x - 48) as u32
-}
-
-// The digits from `at` on, to the word's end.
-fn digits(line: &[u8], at: usize) -> Scanned
-    requires { at ≤ length line.now }
-    ensures { Scans (drop at line.now) at result }
-{
-    let mut v: u32 = 0;
-    let mut i = at;
-    while in_word(line, i) {
-        let x = line[i];
-        if !is_digit(x) {
-            return Scanned::Bad;
-        }
-        let next = v * 10 + digit_value(x);
-        if 65535 < next {
-            return Scanned::Bad;
-        }
-        v = next;
-        i += 1;
-    }
-    Scanned::Number(v as u16, i)
-}
-
-// A number at `at`: decimal, without leading zeros, at most 65,535.
-fn number(line: &[u8], at: usize) -> Scanned
-    requires { at ≤ length line.now }
-    ensures { IsNumber (drop at line.now) at result }
-{
-    if in_word(line, at) {
-        if line[at] == b'0' {
-            if in_word(line, at + 1) {
-                return Scanned::Bad;
-            }
-            return Scanned::Number(0, at + 1);
-        }
-        return digits(line, at);
-    }
-    Scanned::Bad
-}
-
-// The numbers of an order: how many there are, and the first six.
-#[derive(Clone, Copy)]
+// At most six numbers.
+#[derive(Drop)]
 pub struct Numbers {
-    pub ok: bool,
-    pub count: usize,
-    pub values: [u16; 6],
+    values: [u16; 6],
+    count: usize,
 }
 
-// The first six numbers are kept.
-fn kept(values: [u16; 6], count: usize, v: u16) -> [u16; 6]
-    ensures { KeepsOne values count v result }
-{
-    let mut next = values;
-    if count < 6 {
-        next[count] = v;
-    }
-    next
+impl Model for Numbers {
+    ghost use Rattle.std.specs.Prelude.{List, ℕ, ◌≤◌, take};
+
+    ghost Value = { List ℕ };
+
+    ghost view = { λ q. take q.count q.values };
+
+    ghost invariant = { λ q. q.count ≤ 6 };
 }
 
-// The words from `from` on, each a number.
-fn collect(line: &[u8], from: usize) -> Numbers
-    requires { from ≤ length line.now }
-    ensures { Collects (drop from line.now) result }
-{
-    let mut values = [0u16; 6];
-    let mut count: usize = 0;
-    let mut at = from;
-    loop {
-        let Scanned::Number(v, next) = number(line, at) else {
-            return Numbers {
-                ok: false,
-                count: 0,
-                values: [0; 6],
-            };
-        };
-        let more = kept(values, count, v);
-        values = more;
-        count += 1;
-        if line.len() <= next {
-            return Numbers {
-                ok: true,
-                count: count,
-                values: values,
-            };
+impl Numbers {
+    fn new() -> Numbers
+        ensures { result ≡ [] }
+    {
+        Numbers {
+            values: [0; 6],
+            count: 0,
         }
-        at = next + 1;
+    }
+
+    // The first six numbers are kept.
+    fn push(&mut self, x: u16)
+        ensures { self.new ≡ take 6 (self.old ++ x ∷ []) }
+    {
+        if self.count < 6 {
+            self.values[self.count] = x;
+            self.count += 1;
+        }
+    }
+
+    // The first six of the numbers.
+    fn from_slice(numbers: &[u16]) -> Numbers
+        ensures { result ≡ take 6 numbers.now }
+    {
+        let count = numbers.len().min(6);
+        let mut values = [0; 6];
+        values[..count].copy_from_slice(&numbers[..count]);
+        Numbers { values, count }
+    }
+
+    pub fn as_slice(&self) -> &[u16]
+        ensures { result.now ≡ self.now }
+    {
+        &self.values[..self.count]
     }
 }
 
-// An order, or that it can't be read. A functor node has its symbol and how many of the children beside it count.
-#[derive(Clone, Copy)]
-pub enum Command {
-    Unreadable,
+// An order. Five children are enough to be refused, so the first five are handed on.
+#[derive(Drop)]
+pub enum Order {
     Variable,
-    Functor(u16, usize),
-    Equate(u16, u16, u16),
-    Withdraw(u16),
-    Query(u16, u16),
+    Functor { symbol: u16, children: Numbers },
+    Equate { name: u16, left: u16, right: u16 },
+    Withdraw { name: u16 },
+    Query { left: u16, right: u16 },
 }
 
-// Five children are enough to be refused.
-#[derive(Clone, Copy)]
-pub struct Parsed {
-    pub command: Command,
-    pub children: [u16; 5],
-}
-
-fn plain(command: Command) -> Parsed
-    ensures { result.command ≡ command }
+// The digits' value, at most 65,535.
+fn digits(word: &[u8]) -> Option<u16>
+    ensures { result ≡ handed_on (digits_from 0 word.now) }
 {
-    Parsed {
-        command: command,
-        children: [0; 5],
+    let mut v: u16 = 0;
+    for b in word {
+        if !b.is_ascii_digit() {
+            return None;
+        }
+        let next = u32::from(v) * 10 + u32::from(*b - b'0');
+        v = u16::try_from(next).ok()?;
+    }
+    Some(v)
+}
+
+// A word as a number: decimal, without leading zeros, at most 65,535.
+fn number(word: &[u8]) -> Option<u16>
+    ensures { result ≡ handed_on (number_in word.now) }
+{
+    match word {
+        [] | [b'0', _, ..] => None,
+        _ => digits(word),
     }
 }
 
-fn at_most_five(n: usize) -> usize
-    ensures { result ≡ cond (ltb 5 n) 5 n }
+// The words, each a number.
+fn collect(words: &[u8]) -> Option<Numbers>
+    ensures { result ≡ words_found words.now }
 {
-    if 5 < n { 5 } else { n }
+    let mut numbers = Numbers::new();
+    for word in words.split(|b| *b == b' ') {
+        numbers.push(number(word)?);
+    }
+    Some(numbers)
 }
 
-// `F`: a symbol and any count of children.
-fn functor(ns: Numbers) -> Parsed
-    ensures { ByLetter 70 ns result }
+// `V`; `F`: a symbol and any count of children; `E`: a name, left and right; `W`: a name; `Q`: two nodes.
+fn by_letter(letter: u8, numbers: &[u16]) -> Option<Order>
+    requires { length numbers.now ≤ 6 }
+    ensures { result ≡ order_found (by_letter letter numbers.now) }
 {
-    let count = ns.count;
-    if count == 0 {
-        return plain(Command::Unreadable);
+    match (letter, numbers) {
+        (b'V', []) => Some(Order::Variable),
+        (b'F', [symbol, children @ ..]) => Some(Order::Functor {
+            symbol: *symbol,
+            children: Numbers::from_slice(children),
+        }),
+        (b'E', [name, left, right]) => Some(Order::Equate {
+            name: *name,
+            left: *left,
+            right: *right,
+        }),
+        (b'W', [name]) => Some(Order::Withdraw { name: *name }),
+        (b'Q', [left, right]) => Some(Order::Query {
+            left: *left,
+            right: *right,
+        }),
+        _ => None,
     }
-    let v = ns.values;
-    let k = at_most_five(count - 1);
-    Parsed {
-        command: Command::Functor(v[0], k),
-        children: [v[1], v[2], v[3], v[4], v[5]],
-    }
-}
-
-// `E`: a name, left and right.
-fn equate(ns: Numbers) -> Parsed
-    ensures { ByLetter 69 ns result }
-{
-    if ns.count == 3 {
-        let v = ns.values;
-        return plain(Command::Equate(v[0], v[1], v[2]));
-    }
-    plain(Command::Unreadable)
-}
-
-// `W`: a name.
-fn withdraw(ns: Numbers) -> Parsed
-    ensures { ByLetter 87 ns result }
-{
-    if ns.count == 1 {
-        let v = ns.values;
-        return plain(Command::Withdraw(v[0]));
-    }
-    plain(Command::Unreadable)
-}
-
-// `Q`: two nodes.
-fn query(ns: Numbers) -> Parsed
-    ensures { ByLetter 81 ns result }
-{
-    if ns.count == 2 {
-        let v = ns.values;
-        return plain(Command::Query(v[0], v[1]));
-    }
-    plain(Command::Unreadable)
-}
-
-// `V` with a number, and any other letter, can't be read.
-fn by_letter(x: u8, ns: Numbers) -> Parsed
-    requires { 1 ≤ ns.count }
-    ensures { ByLetter x ns result }
-{
-    if x == b'F' {
-        return functor(ns);
-    }
-    if x == b'E' {
-        return equate(ns);
-    }
-    if x == b'W' {
-        return withdraw(ns);
-    }
-    if x == b'Q' {
-        return query(ns);
-    }
-    plain(Command::Unreadable)
 }
 
 // A letter, and numbers after it where a space follows.
-pub fn parse(line: &[u8]) -> Parsed
+pub fn parse(line: &[u8]) -> Option<Order>
     ensures { Parses line.now result }
 {
-    let n = line.len();
-    if n == 0 {
-        return plain(Command::Unreadable);
+    match line {
+        [letter] => by_letter(*letter, &[]),
+        [letter, b' ', words @ ..] => by_letter(*letter, collect(words)?.as_slice()),
+        _ => None,
     }
-    let x = line[0];
-    if n == 1 {
-        if x == b'V' {
-            return plain(Command::Variable);
-        }
-        return plain(Command::Unreadable);
-    }
-    if line[1] != b' ' {
-        return plain(Command::Unreadable);
-    }
-    let ns = collect(line, 2);
-    if ns.ok {
-        return by_letter(x, ns);
-    }
-    plain(Command::Unreadable)
 }

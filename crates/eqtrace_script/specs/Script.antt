@@ -1,4 +1,4 @@
--- An input as a script: which of its lines are answered, and when the program stops (document 02 (a)). There are two ways to answer a list of
+-- An input as a script: which of its lines are answered, and when the program stops. There are two ways to answer a list of
 -- orders: to its end, or to the first refusal.
 --   input_limit   65,536
 --   refuses       an answer says that the order was refused

@@ -13,41 +13,24 @@ pub fn line_end(input: &[u8], at: usize) -> usize
     requires { at ≤ length input.now }
     ensures { EndsAt input.now at result }
 {
-    let mut i = at;
-    while i < input.len() {
-        if input[i] == 10 {
-            return i;
-        }
-        i += 1;
+    match input[at..].iter().position(|b| *b == b'\n') {
+        Some(n) => at + n,
+        None => input.len(),
     }
-    i
 }
 
 // The line `K`: it counts only as an input's first, since no order is written so.
 pub fn is_keep(line: &[u8]) -> bool
     ensures { result ≡ is_keep line.now }
 {
-    if line.len() == 1 {
-        return line[0] == b'K';
-    }
-    false
+    matches!(line, b"K")
 }
 
 // Whether an answer refuses; the names that it cites don't matter.
 pub fn is_refusal(answer: Answer) -> bool
     ensures { result ≡ refuses (meant answer []) }
 {
-    match answer {
-        Answer::Node(_) => false,
-        Answer::Held(_) => false,
-        Answer::Gone(_) => false,
-        Answer::Same => false,
-        Answer::Below => false,
-        Answer::Above => false,
-        Answer::Apart => false,
-        Answer::Refused(_) => true,
-        Answer::Unreadable(_) => true,
-    }
+    matches!(answer, Answer::Refused(_) | Answer::Unreadable(_))
 }
 
 // Where to go on behind an order that ends at `end`, in an input of `size` bytes. This is the place that decides whether to go on at all.
@@ -55,5 +38,5 @@ pub fn next_place(keep: bool, refused: bool, end: usize, size: usize) -> usize
     requires { end ≤ input_limit }
     ensures { result ≡ next_place keep refused end size }
 {
-    if keep | !refused { end + 1 } else { size }
+    if keep || !refused { end + 1 } else { size }
 }

@@ -9,7 +9,7 @@ use native.Mathlib.Omega.{arith}
 use lib.Dec.{ltb, leb}
 use borrow.Author.Tests.{le-leb, ne_eqb, ltb-true, ltb-false}
 use Rattle.graph.specs.Lines.{try}
-use Rattle.eqtrace_orders.specs.Grammar.{is_digit, digits_from, number_of}
+use Rattle.eqtrace_orders.specs.Grammar.{is_digit, digits_from, number_in}
 use Rattle.eqtrace_answers.specs.Text.{decimal_by, decimal}
 use Rattle.eqtrace_answers.proofs.DigitLaws.{limit, tenth}
 
@@ -64,14 +64,14 @@ leads (suc k) x h = go (ltb x 10) refl (leads k (x / 10))
         let t = f (omega (arith, d, m, ltb-false x 10 e)) in
         record { first = t.first; rest = t.rest ++ ((48 + x % 10) ∷ []); is = ap (λ (l : List ℕ). l ++ ((48 + x % 10) ∷ [])) t.is; some_digit = t.some_digit }
 
-not_zero : (l : List ℕ) → Leads l → number_of l ≡ digits_from 0 l
-not_zero l t = ap number_of t.is ∙ go t.rest ∙ sym (ap (digits_from 0) t.is)
+not_zero : (l : List ℕ) → Leads l → number_in l ≡ digits_from 0 l
+not_zero l t = ap number_in t.is ∙ go t.rest ∙ sym (ap (digits_from 0) t.is)
   where
-    go : (r : List ℕ) → number_of (t.first ∷ r) ≡ digits_from 0 (t.first ∷ r)
+    go : (r : List ℕ) → number_in (t.first ∷ r) ≡ digits_from 0 (t.first ∷ r)
     go [] = refl
     go (y ∷ r) = rw (ne_eqb t.first 48 t.some_digit)
 
-pub decimal_read : (x : ℕ) → x ≤ 65535 → number_of (decimal x) ≡ some x
+pub decimal_read : (x : ℕ) → x ≤ 65535 → number_in (decimal x) ≡ some x
 unfolding decimal
 decimal_read zero h = refl
 decimal_read (suc x) h = not_zero (decimal_by 4 (suc x)) (leads 4 (suc x) (omega arith)) ∙ read 4 (suc x) (omega arith) h

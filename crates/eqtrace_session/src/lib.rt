@@ -23,7 +23,7 @@ pub struct Cursor {
     number: u32,
 }
 
-// What is left of an input at a cursor.
+// What is left of an input at a cursor: three ways to go on, of which none has a value or is a fault.
 #[derive(Clone, Copy)]
 enum Left {
     Nothing,

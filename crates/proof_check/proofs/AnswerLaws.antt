@@ -6,17 +6,14 @@ use Prim.Native.Nat.{ℕ, ◌*◌, ◌≤◌}
 use lib.ListN.{length, take}
 use lib.Seq.{length-take-le}
 use Rattle.graph.specs.State.{State}
-use Rattle.graph.specs.Lines.{line_claims}
-use Rattle.graph.specs.Goals.{Goal, Meaning, shows, ended, Judgement, passed, refused, broken_line, judge_end, judge, Passes, Cites}
+use Rattle.graph.specs.Lines.{Claim, line_claims}
+use Rattle.graph.specs.Goals.{Goal, Meaning, shows, Ended, ends, ended, passed, refused, judge_end, judge, Passes, Cites}
 use Rattle.graph.proofs.SoundLaws.{judge_sound}
 use Rattle.graph.proofs.CitesLaws.{passes_cites}
 use Rattle.proof_lines.specs.Codec.{lines_of}
 use Rattle.proof_lines.specs.Proof.{ProofIn}
 use Rattle.proof_lines.proofs.Decoding.{part_lines}
-use Rattle.proof_rules.specs.Rules.{claim_by}
-use Rattle.proof_check.specs.declared.Walked.{Walked}
-use Rattle.proof_check.specs.declared.Walked.TheVariants.{Ends, Breaks}
-use Rattle.proof_check.specs.Answers.{walked, bad_length, answer_to}
+use Rattle.proof_check.specs.Answers.{bad_length, answer_to}
 use Rattle.proof_check.proofs.LengthLaws.{whole_length}
 use Rattle.base.proofs.AbsurdLaws.{zero_is_one}
 
@@ -30,18 +27,13 @@ module _ (s : State) (g : Goal) (bs : List ℕ) where
     unfolding answer_to
     judges = rw good
 
-    module _ (r : Walked) (w : walked r ≡ ended (line_claims s [] (lines_of bs))) where
-      ending : judge_end s.nodes g (walked r) ≡ answer_to s g bs
-      ending = ap (judge_end s.nodes g) w ∙ judges
+    -- r is how the code's walk ended
+    pub answered : (r : Ended) → r ≡ ended (line_claims s [] (lines_of bs)) → judge_end s.nodes g r ≡ answer_to s g bs
+    answered r w = ap (judge_end s.nodes g) w ∙ judges
 
-      -- j is the line that the code gives
-      pub answer_breaks : (i j : ℕ) → r ≡ Breaks i → j ≡ i → broken_line j ≡ answer_to s g bs
-      answer_breaks i j e q = ap broken_line q ∙ ap (λ (x : Walked). judge_end s.nodes g (walked x)) (sym e) ∙ ending
-
-      -- b is the code's answer to whether the last claim shows the goal, j its answer to the call
-      pub answer_ends : (k u v : ℕ) → r ≡ Ends k u v → (b : Bool) → b ≡ shows s.nodes g (claim_by k u v) → (j : Judgement) → j ≡ cond b passed (refused 13) → j ≡ answer_to s g bs
-      answer_ends k u v e b q j d =
-          d ∙ ap (λ (t : Bool). cond t passed (refused 13)) q ∙ ap (λ (x : Walked). judge_end s.nodes g (walked x)) (sym e) ∙ ending
+    -- b is the code's answer to whether the last claim shows the goal
+    pub answered_end : (c : Claim) (b : Bool) → b ≡ shows s.nodes g c → ends c ≡ ended (line_claims s [] (lines_of bs)) → cond b passed (refused 13) ≡ answer_to s g bs
+    answered_end c b e w = rw e (answered (ends c) w)
 
 -- what passes is judged so
 module _ (s : State) (g : Goal) (bs : List ℕ) (e : answer_to s g bs ≡ passed) where

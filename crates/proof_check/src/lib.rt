@@ -1,31 +1,23 @@
 // The checker of a proof's bytes.
 #![tactic(auto)]
 
-ghost use Rattle.std.specs.Prelude.{◌&&◌, List, [], ◌≡◌, ◌≤◌, eqb, length};
-ghost use Rattle.graph.specs.Limits.{node_limit, buffer_bytes};
-ghost use Rattle.graph.specs.State.{Node, with_offer};
-ghost use Rattle.graph.specs.Lines.{same, below, line_claims};
+ghost use Rattle.std.specs.Prelude.{◌&&◌, [], ◌≡◌, ◌≤◌, ◌<◌, eqb, length, IfErr};
+ghost use Rattle.graph.specs.Limits.{node_limit, buffer_bytes, line_limit};
+ghost use Rattle.graph.specs.State.{with_offer};
+ghost use Rattle.graph.specs.Lines.{line_claims};
 ghost use Rattle.graph.specs.Goals.{ended, shows};
-ghost use Rattle.store.specs.Views.{terms, equations, nodes_of, state_from};
+ghost use Rattle.store.specs.Views.{nodes_of, state_from};
 ghost use Rattle.proof_lines.specs.Codec.{lines_of};
-ghost use Rattle.proof_rules.specs.Rules.{offer_of, claim_by};
+ghost use Rattle.proof_rules.specs.Rules.{offer_of, claim_seen};
 ghost use Rattle.proof_claims.specs.Claims.{Fit};
-ghost use Rattle.proof_check.specs.Answers.{walked, goal_of, judged_as, bad_length, answer_to};
-ghost use Rattle.store.specs.declared.Terms.{Terms};
-ghost use Rattle.store.specs.declared.Equations.{Equations};
+ghost use Rattle.proof_check.specs.Answers.{walked, goal_of, judged_as, bad_length, answer_to, LineWithin};
 
-use proof_lines::Decoded;
-use proof_rules::{Claimed, Labels, OfferAsked};
-
-// How the walk over the lines ends: in the last one's claim (kind, start, end), or at the first that breaks its rule.
-#[derive(Clone, Copy)]
-pub enum Walked {
-    Ends(u8, u8, u8),
-    Breaks(usize),
-}
+use proof_rules::{Claim, ClaimKind, Labels, Offer};
+use refusals::Refusal;
+use store::{Equations, Terms};
 
 // What a proof is to show.
-#[derive(Clone, Copy)]
+#[derive(Clone, Copy, PartialEq, Eq, Debug)]
 pub enum GoalAsked {
     Clash,
     Cycle,
@@ -33,125 +25,50 @@ pub enum GoalAsked {
     Below(u16, u16),
 }
 
-// The lines pass, a refusal's number, or refusal 12 with the line.
-#[derive(Clone, Copy)]
-pub enum Judged {
-    Passes,
-    Refused(u8),
-    Broken(usize),
-}
-
-// Takes each line in turn, with the claims of those before it in three arrays.
-fn walk<'a>(
-    kind: &'a [u8; 64],
-    symbol: &'a [u16; 64],
-    arity: &'a [u8; 64],
-    child: &'a [u8; 256],
-    n: usize,
-    name: &'a [u16; 256],
-    left: &'a [u8; 256],
-    right: &'a [u8; 256],
-    m: usize,
-    offer: OfferAsked,
-    bytes: &'a [u8],
-) -> Walked
-    ghost w: { Terms × Equations }
-    requires right_value { (terms n kind.now symbol.now arity.now child.now, equations m name.now left.now right.now) ≡ w }
-    requires fit { Fit w.0 w.1 (offer_of offer) × ((8 ≤ length bytes.now) × (length bytes.now ≤ buffer_bytes)) }
-    ensures { walked result ≡ ended (line_claims (with_offer (state_from w.0 w.1) (offer_of offer)) [] (lines_of bytes.now)) }
+// Takes each line in turn, with the claims of those before it: the last one's claim, or the place of the first that breaks its rule.
+fn walk(t: &Terms, e: &Equations, offer: Option<Offer>, bytes: &[u8]) -> Result<Claim, usize>
+    requires { Fit t.now e.now (offer_of offer) × ((8 ≤ length bytes.now) × (length bytes.now ≤ buffer_bytes)) }
+    ensures end { walked result ≡ ended (line_claims (with_offer (state_from t.now e.now) (offer_of offer)) [] (lines_of bytes.now)) }
+    ensures within { IfErr result (λ i. i < line_limit) }
 {
-    let mut kinds = [0u8; 8192];
-    let mut starts = [0u8; 8192];
-    let mut ends = [0u8; 8192];
+    let mut claims = [Claim::same(0, 0); 8192];
     let count = bytes.len() / 8;
-    let mut i = 0;
-    while i < count {
-        let Decoded::Whole(l) = proof_lines::decode(bytes, i) else {
-            return Walked::Breaks(i);
+    for i in 0..count {
+        let Some(l) = proof_lines::decode(bytes, i) else {
+            return Err(i);
         };
-        let Claimed::Claims(k, u, v) = proof_claims::claim(
-            kind, symbol, arity, child, n, name, left, right, m, offer, &kinds, &starts, &ends, i,
-            l,
-        ) else {
-            return Walked::Breaks(i);
+        let Some(c) = proof_claims::claim(t, e, offer, &claims[..i], &l) else {
+            return Err(i);
         };
-        kinds[i] = k;
-        starts[i] = u;
-        ends[i] = v;
-        i += 1;
+        // Field by field: with `claims[i] = c` a line takes a third longer.
+        claims[i] = Claim {
+            kind: c.kind,
+            start: c.start,
+            end: c.end,
+        };
     }
-    let last = count - 1;
-    Walked::Ends(kinds[last], starts[last], ends[last])
+    Ok(claims[count - 1])
 }
 
-fn equal_ends(x: u16, y: u16, u: u8, v: u8) -> bool
-    ensures { result ≡ (eqb x u && eqb y v) }
+fn equal_ends(x: u16, y: u16, c: Claim) -> bool
+    ensures { result ≡ (eqb x c.start && eqb y c.end) }
 {
-    if x != u as u16 {
-        return false;
-    }
-    y == v as u16
+    x == u16::from(c.start) && y == u16::from(c.end)
 }
 
-// A claim of kind same from `u` to `v` shows the goal.
-fn same_shows<'a>(
-    kind: &'a [u8; 64],
-    symbol: &'a [u16; 64],
-    arity: &'a [u8; 64],
-    child: &'a [u8; 256],
-    n: usize,
-    goal: GoalAsked,
-    u: u8,
-    v: u8,
-) -> bool
-    requires { n ≤ node_limit }
-    ensures { result ≡ shows (nodes_of (terms n kind.now symbol.now arity.now child.now)) (goal_of goal) (same u v) }
+// The claim shows the goal.
+fn shows_goal(t: &Terms, goal: GoalAsked, c: Claim) -> bool
+    requires { t.now.count ≤ node_limit }
+    ensures { result ≡ shows (nodes_of t.now) (goal_of goal) (claim_seen c) }
 {
-    match goal {
-        GoalAsked::Clash => {
-            let Labels::Differ = proof_rules::compare_labels(kind, symbol, arity, child, n, u, v)
-            else {
-                return false;
-            };
-            true
+    match (goal, c.kind) {
+        (GoalAsked::Clash, ClaimKind::Same) => {
+            proof_rules::compare_labels(t, c.start, c.end) == Labels::Differ
         }
-        GoalAsked::Cycle => false,
-        GoalAsked::Same(x, y) => equal_ends(x, y, u, v),
-        GoalAsked::Below(_, _) => false,
-    }
-}
-
-// A claim of kind below from `u` to `v` shows the goal, whatever the nodes.
-fn below_shows(goal: GoalAsked, u: u8, v: u8) -> bool
-    ensures { (ns : List Node) → result ≡ shows ns (goal_of goal) (below u v) }
-{
-    match goal {
-        GoalAsked::Clash => false,
-        GoalAsked::Cycle => u == v,
-        GoalAsked::Same(_, _) => false,
-        GoalAsked::Below(x, y) => equal_ends(x, y, u, v),
-    }
-}
-
-// The claim of kind `k` from `u` to `v` shows the goal.
-fn shows_goal<'a>(
-    kind: &'a [u8; 64],
-    symbol: &'a [u16; 64],
-    arity: &'a [u8; 64],
-    child: &'a [u8; 256],
-    n: usize,
-    goal: GoalAsked,
-    k: u8,
-    u: u8,
-    v: u8,
-) -> bool
-    requires { n ≤ node_limit }
-    ensures { result ≡ shows (nodes_of (terms n kind.now symbol.now arity.now child.now)) (goal_of goal) (claim_by k u v) }
-{
-    if k == proof_rules::SAME {
-        same_shows(kind, symbol, arity, child, n, goal, u, v)
-    } else {
-        below_shows(goal, u, v)
+        (GoalAsked::Cycle, ClaimKind::Below) => c.start == c.end,
+        (GoalAsked::Same(x, y), ClaimKind::Same) => equal_ends(x, y, c),
+        (GoalAsked::Below(x, y), ClaimKind::Below) => equal_ends(x, y, c),
+        _ => false,
     }
 }
 
@@ -159,47 +76,31 @@ fn shows_goal<'a>(
 pub fn bad_length(size: usize) -> bool
     ensures { result ≡ bad_length size }
 {
-    if size == 0 {
-        return true;
-    }
-    if size > graph::BUFFER {
-        return true;
-    }
-    size % 8 != 0
+    size == 0 || size > graph::BUFFER || size % 8 != 0
 }
 
 // Refusal 11, then 12 with the first line that breaks its rule, then 13; or the lines pass.
-pub fn check<'a>(
-    kind: &'a [u8; 64],
-    symbol: &'a [u16; 64],
-    arity: &'a [u8; 64],
-    child: &'a [u8; 256],
-    n: usize,
-    name: &'a [u16; 256],
-    left: &'a [u8; 256],
-    right: &'a [u8; 256],
-    m: usize,
-    offer: OfferAsked,
-    bytes: &'a [u8],
+pub fn check(
+    t: &Terms,
+    e: &Equations,
+    offer: Option<Offer>,
+    bytes: &[u8],
     goal: GoalAsked,
-) -> Judged
-    ghost w: { Terms × Equations }
-    requires right_value { (terms n kind.now symbol.now arity.now child.now, equations m name.now left.now right.now) ≡ w }
-    requires fit { Fit w.0 w.1 (offer_of offer) }
-    ensures { judged_as result ≡ answer_to (with_offer (state_from w.0 w.1) (offer_of offer)) (goal_of goal) bytes.now }
+) -> Result<(), Refusal>
+    requires { Fit t.now e.now (offer_of offer) }
+    ensures answer { judged_as result ≡ answer_to (with_offer (state_from t.now e.now) (offer_of offer)) (goal_of goal) bytes.now }
+    ensures within { LineWithin result }
 {
     if bad_length(bytes.len()) {
-        return Judged::Refused(11);
+        return Err(Refusal::BadLength);
     }
-    match walk(
-        kind, symbol, arity, child, n, name, left, right, m, offer, bytes,
-    ) {
-        Walked::Breaks(i) => Judged::Broken(i),
-        Walked::Ends(k, u, v) => {
-            if shows_goal(kind, symbol, arity, child, n, goal, k, u, v) {
-                Judged::Passes
+    match walk(t, e, offer, bytes) {
+        Err(i) => Err(Refusal::BrokenLine { line: i as u16 }),
+        Ok(last) => {
+            if shows_goal(t, goal, last) {
+                Ok(())
             } else {
-                Judged::Refused(13)
+                Err(Refusal::NotShown)
             }
         }
     }

@@ -10,28 +10,28 @@ use lib.ListN.{length, get_or, set, replicate, get_elem?, length-set, length-rep
 use lib.Dec.{eqb, leb}
 use borrow.Author.Tests.{leb-true, leb-false, eqb-true, eqb-false}
 use lib.Seq.{get_or-set_same, get_or-set_other}
+use Rattle.base.proofs.AbsurdLaws.{zero_is_one, true_is_false}
 use Rattle.graph.specs.Lines.{Line}
 use Rattle.proof_lines.specs.Codec.{line_at, lines_of}
 use Rattle.proof_lines.proofs.Decoding.{lines_length, lines_found}
 use Rattle.proof_cited.specs.Cited.{citations, In, Rests, itself, through, Named}
-use Rattle.proof_cited.specs.Marks.{mark_all, see_one, block_one, Blank, ones, NamesNoted}
-use Rattle.proof_cited.proofs.OneLaws.{ones_blank}
-use Rattle.proof_cited.proofs.MarkLaws.{all_length, all_keep, all_past, all_new, all_from, see_length, see_keep, see_new, see_from, see_bits, see_ones, see_blocked}
+use Rattle.proof_cited.specs.Marks.{mark_all, see_one, block_one, Blank, trues, NamesNoted}
+use Rattle.proof_cited.proofs.OneLaws.{trues_blank}
+use Rattle.proof_cited.proofs.MarkLaws.{all_length, all_keep, all_past, all_new, all_from, see_length, see_keep, see_new, see_from, see_trues, see_blocked}
 
-pub record Marking (bs marks seen blocks : List ℕ) (k : ℕ) : Type 0 where
+pub record Marking (bs : List ℕ) (marks seen blocks : List Bool) (k : ℕ) : Type 0 where
   pub within : k ≤ length bs / 8
   pub marks_long : length marks ≡ 8192
   pub seen_long : length seen ≡ 65536
   pub blocks_long : length blocks ≡ 1024
-  pub rest : (i : ℕ) → get_or marks i 0 ≡ 1 → Rests (lines_of bs) i
-  pub ending : (i : ℕ) → suc i ≡ length bs / 8 → get_or marks i 0 ≡ 1
-  pub handled : (j : ℕ) → k ≤ j → get_or marks j 0 ≡ 1 → (l : Line) → get_elem? (lines_of bs) j ≡ some l
-      → (i : ℕ) → i < j → In i (citations l.rule l.first l.second) → get_or marks i 0 ≡ 1
-  pub noted : (j : ℕ) → k ≤ j → get_or marks j 0 ≡ 1 → (l : Line) → get_elem? (lines_of bs) j ≡ some l → l.rule ≡ 1 → get_or seen l.first 0 ≡ 1
-  pub named : (x : ℕ) → get_or seen x 0 ≡ 1 → Named (lines_of bs) x
-  pub bits : (x : ℕ) → (get_or seen x 0 ≡ 1 → ⊥) → get_or seen x 0 ≡ 0
-  pub blocked : (x : ℕ) → get_or seen x 0 ≡ 1 → get_or blocks (x / 64) 0 ≡ 1
-  pub few : ones seen + k ≤ length bs / 8
+  pub rest : (i : ℕ) → get_or marks i false ≡ true → Rests (lines_of bs) i
+  pub ending : (i : ℕ) → suc i ≡ length bs / 8 → get_or marks i false ≡ true
+  pub handled : (j : ℕ) → k ≤ j → get_or marks j false ≡ true → (l : Line) → get_elem? (lines_of bs) j ≡ some l
+      → (i : ℕ) → i < j → In i (citations l.rule l.first l.second) → get_or marks i false ≡ true
+  pub noted : (j : ℕ) → k ≤ j → get_or marks j false ≡ true → (l : Line) → get_elem? (lines_of bs) j ≡ some l → l.rule ≡ 1 → get_or seen l.first false ≡ true
+  pub named : (x : ℕ) → get_or seen x false ≡ true → Named (lines_of bs) x
+  pub blocked : (x : ℕ) → get_or seen x false ≡ true → get_or blocks (x / 64) false ≡ true
+  pub few : trues seen + k ≤ length bs / 8
 
 -- a number that is at least k - 1 is that, or at least k
 split : (k j : ℕ) → k - 1 ≤ j → (k ≤ j) ⊎ (j ≡ k - 1)
@@ -41,9 +41,9 @@ split k j h = go (leb k j) refl
     go true q = inl (leb-true k j q)
     go false q = let l = leb-false k j q in inr (omega arith)
 
-module _ (bs marks seen blocks : List ℕ) (k : ℕ) (w : Marking bs marks seen blocks k) (pos : 0 < k) where
+module _ (bs : List ℕ) (marks seen blocks : List Bool) (k : ℕ) (w : Marking bs marks seen blocks k) (pos : 0 < k) where
   -- a line without a mark is passed over
-  pub marking_skip : (get_or marks (k - 1) 0 ≡ 1 → ⊥) → Marking bs marks seen blocks (k - 1)
+  pub marking_skip : get_or marks (k - 1) false ≡ false → Marking bs marks seen blocks (k - 1)
   marking_skip n = record {
     within = let x = w.within in omega arith;
     marks_long = w.marks_long;
@@ -51,15 +51,14 @@ module _ (bs marks seen blocks : List ℕ) (k : ℕ) (w : Marking bs marks seen 
     blocks_long = w.blocks_long;
     rest = w.rest;
     ending = w.ending;
-    handled = λ j h e l q i b c. ⊎_elim (λ g. w.handled j g e l q i b c) (λ g. absurd (n (rw g at e))) (split k j h);
-    noted = λ j h e l q r. ⊎_elim (λ g. w.noted j g e l q r) (λ g. absurd (n (rw g at e))) (split k j h);
+    handled = λ j h e l q i b c. ⊎_elim (λ g. w.handled j g e l q i b c) (λ g. let z = rw g at e in true_is_false (sym z ∙ n)) (split k j h);
+    noted = λ j h e l q r. ⊎_elim (λ g. w.noted j g e l q r) (λ g. let z = rw g at e in true_is_false (sym z ∙ n)) (split k j h);
     named = w.named;
-    bits = w.bits;
     blocked = w.blocked;
     few = let x = w.few in omega arith;
   }
 
-  module _ (m : get_or marks (k - 1) 0 ≡ 1) (few : length bs ≤ 65536) (small : (i : ℕ) → get_or bs i 0 < 256) where
+  module _ (m : get_or marks (k - 1) false ≡ true) (few : length bs ≤ 65536) (small : (i : ℕ) → get_or bs i 0 < 256) where
     here : k - 1 < length bs / 8
     here = let x = w.within in omega arith
 
@@ -110,64 +109,62 @@ module _ (bs marks seen blocks : List ℕ) (k : ℕ) (w : Marking bs marks seen 
           ⊎_elim (λ y. w.named x y)
           (λ y. record { at = k - 1; line = this; rests = w.rest (k - 1) m; there = at; by_equation_lem = y.0; name = y.1 })
           (see_from seen this.rule this.first x g);
-      bits = see_bits seen this.rule this.first w.bits fits;
       blocked = see_blocked seen blocks this.rule this.first w.blocked block_fits;
-      few = let x = w.few in omega (arith, see_ones seen this.rule this.first);
+      few = let x = w.few in omega (arith, see_trues seen this.rule this.first);
     }
 
-    pub marking_visit : (ms ss cs : List ℕ) → ms ≡ mark_all marks (k - 1) cited → ss ≡ see_one seen this.rule this.first
+    pub marking_visit : (ms ss cs : List Bool) → ms ≡ mark_all marks (k - 1) cited → ss ≡ see_one seen this.rule this.first
         → cs ≡ block_one blocks this.rule this.first → Marking bs ms ss cs (k - 1)
     marking_visit ms ss cs p q r = rw (p, q, r) visited
 
 -- ---- blank tables
 
-blank_zero : (n i : ℕ) → ◌≡◌ {A = ℕ} (get_or (replicate n 0) i 0) 0
-blank_zero zero i = refl
-blank_zero (suc n) zero = refl
-blank_zero (suc n) (suc i) = blank_zero n i
+blank_none : (n i : ℕ) → get_or (replicate n false) i false ≡ false
+blank_none zero i = refl
+blank_none (suc n) zero = refl
+blank_none (suc n) (suc i) = blank_none n i
 
-pub blank : (n : ℕ) → Blank n (replicate n 0)
-blank n = record { long = length-replicate n 0; zeros = blank_zero n }
+pub blank : (n : ℕ) → Blank n (replicate n false)
+blank n = record { long = length-replicate n false; none = blank_none n }
 
 -- the last line marked
-pub marking_start : (bs marks seen blocks : List ℕ) → Blank 8192 marks → Blank 65536 seen → Blank 1024 blocks → 8 ≤ length bs → length bs ≤ 65536
-    → Marking bs (set marks (length bs / 8 - 1) 1) seen blocks (length bs / 8)
+pub marking_start : (bs : List ℕ) (marks seen blocks : List Bool) → Blank 8192 marks → Blank 65536 seen → Blank 1024 blocks → 8 ≤ length bs → length bs ≤ 65536
+    → Marking bs (set marks (length bs / 8 - 1) true) seen blocks (length bs / 8)
 marking_start bs marks seen blocks b s c one few =
     let last : length bs / 8 - 1 < length marks = let x = b.long in omega arith in
     record {
       within = omega arith;
-      marks_long = length-set marks (length bs / 8 - 1) 1 ∙ b.long;
+      marks_long = length-set marks (length bs / 8 - 1) true ∙ b.long;
       seen_long = s.long;
       blocks_long = c.long;
       rest = λ i e. itself (at i e);
-      ending = λ i e. let y : i ≡ length bs / 8 - 1 = omega arith in rw y (get_or-set_same marks (length bs / 8 - 1) 1 0 last);
+      ending = λ i e. let y : i ≡ length bs / 8 - 1 = omega arith in rw y (get_or-set_same marks (length bs / 8 - 1) true false last);
       handled = λ j h e l q i c d. absurd (far j h e);
       noted = λ j h e l q r. absurd (far j h e);
       named = λ x e. absurd (unseen x e);
-      bits = λ x n. s.zeros x;
       blocked = λ x e. absurd (unseen x e);
-      few = omega (arith, ones_blank seen s.zeros);
+      few = omega (arith, trues_blank seen s.none);
     }
   where
-    unseen : (x : ℕ) → get_or seen x 0 ≡ 1 → ⊥
-    unseen x e = omega (arith, s.zeros x)
+    unseen : (x : ℕ) → get_or seen x false ≡ true → ⊥
+    unseen x e = let z = s.none x in zero_is_one cc
 
-    only : (i : ℕ) → get_or (set marks (length bs / 8 - 1) 1) i 0 ≡ 1 → i ≡ length bs / 8 - 1
+    only : (i : ℕ) → get_or (set marks (length bs / 8 - 1) true) i false ≡ true → i ≡ length bs / 8 - 1
     only i e = go (eqb i (length bs / 8 - 1)) refl
       where
         go : (t : Bool) → eqb i (length bs / 8 - 1) ≡ t → i ≡ length bs / 8 - 1
         go true q = eqb-true _ _ q
-        go false q = absurd (let y : ◌≡◌ {A = ℕ} 0 1 = sym (b.zeros i) ∙ sym (get_or-set_other marks (length bs / 8 - 1) i 1 0 (eqb-false _ _ q)) ∙ e in omega arith)
+        go false q = let y : false ≡ true = sym (b.none i) ∙ sym (get_or-set_other marks (length bs / 8 - 1) i true false (eqb-false _ _ q)) ∙ e in zero_is_one cc
 
-    at : (i : ℕ) → get_or (set marks (length bs / 8 - 1) 1) i 0 ≡ 1 → suc i ≡ length (lines_of bs)
+    at : (i : ℕ) → get_or (set marks (length bs / 8 - 1) true) i false ≡ true → suc i ≡ length (lines_of bs)
     at i e = let y = only i e in let z = lines_length bs in omega arith
 
-    far : (j : ℕ) → length bs / 8 ≤ j → get_or (set marks (length bs / 8 - 1) 1) j 0 ≡ 1 → ⊥
+    far : (j : ℕ) → length bs / 8 ≤ j → get_or (set marks (length bs / 8 - 1) true) j false ≡ true → ⊥
     far j h e = let y = only j e in omega arith
 
 -- all lines handled
-module _ (bs marks seen blocks : List ℕ) (k : ℕ) (w : Marking bs marks seen blocks k) (done : k ≤ 0) (few : length bs ≤ 65536) where
-  all_marked : {i : ℕ} → Rests (lines_of bs) i → get_or marks i 0 ≡ 1
+module _ (bs : List ℕ) (marks seen blocks : List Bool) (k : ℕ) (w : Marking bs marks seen blocks k) (done : k ≤ 0) (few : length bs ≤ 65536) where
+  all_marked : {i : ℕ} → Rests (lines_of bs) i → get_or marks i false ≡ true
   all_marked {i} (itself e) = w.ending i (e ∙ lines_length bs)
   all_marked {i} (through {j = j} l r q h c) = w.handled j (omega arith) (all_marked r) l q i h c
 
@@ -176,7 +173,6 @@ module _ (bs marks seen blocks : List ℕ) (k : ℕ) (w : Marking bs marks seen 
     table = record {
       only = w.named;
       every = λ x n. rw (← n.name) (w.noted n.at (omega arith) (all_marked n.rests) n.line n.there n.by_equation_lem);
-      else_zero = w.bits;
     };
     tables = record {
       seen_long = w.seen_long;

@@ -5,7 +5,7 @@ use mathlib.Core.List.{List}
 use Prim.Native.Nat.{ℕ, zero, suc, ◌≤◌, ◌<◌}
 use native.Mathlib.Omega.{arith}
 use lib.Dec.{ltb, eqb}
-use lib.ListN.{get_or}
+use lib.ListN.{length, get_or}
 use borrow.Author.Tests.{ltb-true, ltb-false, eqb-true, eqb-false}
 use Rattle.graph.specs.State.{State, name_held}
 use Rattle.graph.specs.Lines.{Line}
@@ -16,10 +16,10 @@ pub cited_held : (s : State) (ls : List Line) (x : ℕ) → Cites s ls → Named
 cited_held s ls x c n = rw (← n.name) (c n.at n.line n.there n.by_equation_lem)
 
 -- what stands at i in one list stands at some k, not before i, in the other, where the lists agree before i
-module _ (ls : List Line) (a b : List ℕ) (n m : ℕ) (p : CitedRising ls a n) (q : CitedRising ls b m) (i : ℕ)
-    (same : (j : ℕ) → j < i → get_or a j 0 ≡ get_or b j 0) (h : i < n) where
+module _ (ls : List Line) (a b : List ℕ) (p : CitedRising ls a) (q : CitedRising ls b) (i : ℕ)
+    (same : (j : ℕ) → j < i → get_or a j 0 ≡ get_or b j 0) (h : i < length a) where
   abbrev Later : Type 0
-  Later = (k : ℕ) × (k < m) × (get_or b k 0 ≡ get_or a i 0)
+  Later = (k : ℕ) × (k < length b) × (get_or b k 0 ≡ get_or a i 0)
 
   not_before : (w : Later) → i ≤ w.0
   not_before w = go (ltb w.0 i) refl
@@ -33,7 +33,7 @@ module _ (ls : List Line) (a b : List ℕ) (n m : ℕ) (p : CitedRising ls a n) 
   later : Later
   later = q.every (get_or a i 0) (p.only i h)
 
-  pub counted : i < m
+  pub counted : i < length b
   counted = let w = later in omega (arith, w.1, not_before w)
 
   pub at_least : get_or b i 0 ≤ get_or a i 0
@@ -46,27 +46,27 @@ module _ (ls : List Line) (a b : List ℕ) (n m : ℕ) (p : CitedRising ls a n) 
           let l : i < w.0 = let y = not_before w in omega (arith, z) in
           omega (arith, q.rising i w.0 l w.1, w.2)
 
-module _ (ls : List Line) (a b : List ℕ) (n m : ℕ) (p : CitedRising ls a n) (q : CitedRising ls b m) where
+module _ (ls : List Line) (a b : List ℕ) (p : CitedRising ls a) (q : CitedRising ls b) where
   -- up to i, by what is known before it
-  agree : (i : ℕ) → i ≤ n → i ≤ m → (j : ℕ) → j < i → get_or a j 0 ≡ get_or b j 0
+  agree : (i : ℕ) → i ≤ length a → i ≤ length b → (j : ℕ) → j < i → get_or a j 0 ≡ get_or b j 0
   agree zero h k j l = absurd (omega arith)
   agree (suc i) h k j l = go (eqb j i) refl (agree i (omega arith) (omega arith))
     where
       go : (t : Bool) → eqb j i ≡ t → ((j : ℕ) → j < i → get_or a j 0 ≡ get_or b j 0) → get_or a j 0 ≡ get_or b j 0
       go true e before =
           let z = eqb-true j i e in
-          rw z (omega (arith, at_least ls a b n m p q i before (omega arith), at_least ls b a m n q p i (λ j l. sym (before j l)) (omega arith)))
+          rw z (omega (arith, at_least ls a b p q i before (omega arith), at_least ls b a q p i (λ j l. sym (before j l)) (omega arith)))
       go false e before = let z = eqb-false j i e in before j (omega (arith, z))
 
-  least : n ≤ m
-  least = go (ltb m n) refl
+  least : length a ≤ length b
+  least = go (ltb (length b) (length a)) refl
     where
-      go : (t : Bool) → ltb m n ≡ t → n ≤ m
-      go true e = let l = ltb-true m n e in absurd (omega (arith, counted ls a b n m p q m (agree m (omega arith) (omega arith)) l))
-      go false e = ltb-false m n e
+      go : (t : Bool) → ltb (length b) (length a) ≡ t → length a ≤ length b
+      go true e = let l = ltb-true (length b) (length a) e in absurd (omega (arith, counted ls a b p q (length b) (agree (length b) (omega arith) (omega arith)) l))
+      go false e = ltb-false (length b) (length a) e
 
 -- two such lists have the same names at the same places
-pub rising_unique : (ls : List Line) (a b : List ℕ) (n m : ℕ) → CitedRising ls a n → CitedRising ls b m → (n ≡ m) × ((i : ℕ) → i < n → get_or a i 0 ≡ get_or b i 0)
-rising_unique ls a b n m p q =
-    let e : n ≡ m = omega (arith, least ls a b n m p q, least ls b a m n q p) in
-    (e, agree ls a b n m p q n (omega arith) (omega arith))
+pub rising_unique : (ls : List Line) (a b : List ℕ) → CitedRising ls a → CitedRising ls b → (length a ≡ length b) × ((i : ℕ) → i < length a → get_or a i 0 ≡ get_or b i 0)
+rising_unique ls a b p q =
+    let e : length a ≡ length b = omega (arith, least ls a b p q, least ls b a q p) in
+    (e, agree ls a b p q (length a) (omega arith) (omega arith))

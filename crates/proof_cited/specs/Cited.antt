@@ -1,10 +1,10 @@
--- Which equations a proof's last line rests on (document 01: the names cited by equation lines that the last line rests on).
+-- Which equations a proof's last line rests on: the names cited by equation lines that the last line rests on.
 --   citations    the lines that a line cites, by its rule and fields
 --   Rests        the last line rests on line i: it is that line, or an earlier one that a line it rests on cites
 --   Named        x is the name in an equation line that the last line rests on
---   CitedTable   a table with 1 at each such name, and 0 at every other number
---   CitedRising  the first n of a list are those names, rising, so each stands there once
-use Rattle.std.specs.Prelude.{◌≡◌, cond, List, [], ◌∷◌, ℕ, suc, ◌<◌, length, get_or, eqb}
+--   CitedTable   a table that is true at each such name, and at no other number
+--   CitedRising  a list of those names, rising, so each stands there once
+use Rattle.std.specs.Prelude.{◌≡◌, Bool, true, false, cond, List, [], ◌∷◌, ℕ, suc, ◌<◌, length, get_or, eqb}
 use Rattle.std.proofs.Math.Option.{some}
 use Rattle.std.proofs.Math.ListN.{get_elem?}
 use Rattle.graph.specs.Lines.{Line}
@@ -29,12 +29,11 @@ pub record Named (ls : List Line) (x : ℕ) : Type 0 where
   pub by_equation_lem : line.rule ≡ 1
   pub name : line.first ≡ x
 
-pub record CitedTable (ls : List Line) (seen : List ℕ) : Type 0 where
-  pub only : (x : ℕ) → get_or seen x 0 ≡ 1 → Named ls x
-  pub every : (x : ℕ) → Named ls x → get_or seen x 0 ≡ 1
-  pub else_zero : (x : ℕ) → (get_or seen x 0 ≡ 1 → ⊥) → get_or seen x 0 ≡ 0
+pub record CitedTable (ls : List Line) (seen : List Bool) : Type 0 where
+  pub only : (x : ℕ) → get_or seen x false ≡ true → Named ls x
+  pub every : (x : ℕ) → Named ls x → get_or seen x false ≡ true
 
-pub record CitedRising (ls : List Line) (names : List ℕ) (n : ℕ) : Type 0 where
-  pub only : (i : ℕ) → i < n → Named ls (get_or names i 0)
-  pub every : (x : ℕ) → Named ls x → (i : ℕ) × (i < n) × (get_or names i 0 ≡ x)
-  pub rising : (i j : ℕ) → i < j → j < n → get_or names i 0 < get_or names j 0
+pub record CitedRising (ls : List Line) (names : List ℕ) : Type 0 where
+  pub only : (i : ℕ) → i < length names → Named ls (get_or names i 0)
+  pub every : (x : ℕ) → Named ls x → (i : ℕ) × (i < length names) × (get_or names i 0 ≡ x)
+  pub rising : (i j : ℕ) → i < j → j < length names → get_or names i 0 < get_or names j 0

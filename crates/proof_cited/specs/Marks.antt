@@ -3,51 +3,63 @@
 --   see_one      the name of an equation line is noted
 --   block_one    and so is its block: names 64 b to 64 b + 63 are block b
 --   block_size   64
---   Blank        a table of n zeros
---   ones         how many entries are 1
+--   Blank        a table of n times false
+--   trues        how many entries are true
 --   Listable     both tables note the same names, at most 8,192
 --   NamesNoted   and these are the cited ones
+--   Listing      the first n of a list are the noted names below x, rising
 --   Listed       the first n of a list are the noted names, rising
-use Rattle.std.specs.Prelude.{◌≡◌, cond, List, [], ◌∷◌, ℕ, suc, ◌/◌, ◌≤◌, ◌<◌, length, set, get_or, eqb, ltb}
+use Rattle.std.specs.Prelude.{◌≡◌, Bool, true, false, cond, List, [], ◌∷◌, ℕ, suc, ◌/◌, ◌≤◌, ◌<◌, length, take, set, get_or, eqb, ltb}
 use Rattle.graph.specs.Limits.{line_limit}
 use Rattle.graph.specs.Lines.{Line}
 use Rattle.proof_cited.specs.Cited.{CitedTable}
 
-unfoldable pub mark_one : List ℕ → ℕ → ℕ → List ℕ
-mark_one m k a = cond (ltb a k) (set m a 1) m
+unfoldable pub mark_one : List Bool → ℕ → ℕ → List Bool
+mark_one m k a = cond (ltb a k) (set m a true) m
 
-abbrev pub mark_all : List ℕ → ℕ → List ℕ → List ℕ
+abbrev pub mark_all : List Bool → ℕ → List ℕ → List Bool
 mark_all m k [] = m
 mark_all m k (a ∷ l) = mark_all (mark_one m k a) k l
 
-unfoldable pub see_one : List ℕ → ℕ → ℕ → List ℕ
-see_one s rule first = cond (eqb rule 1) (set s first 1) s
+unfoldable pub see_one : List Bool → ℕ → ℕ → List Bool
+see_one s rule first = cond (eqb rule 1) (set s first true) s
 
 abbrev pub block_size : ℕ
 block_size = 64
 
-abbrev pub block_one : List ℕ → ℕ → ℕ → List ℕ
+abbrev pub block_one : List Bool → ℕ → ℕ → List Bool
 block_one b rule first = see_one b rule (first / block_size)
 
-pub record Blank (n : ℕ) (table : List ℕ) : Type 0 where
+pub record Blank (n : ℕ) (table : List Bool) : Type 0 where
   pub long : length table ≡ n
-  pub zeros : (x : ℕ) → get_or table x 0 ≡ 0
+  pub none : (x : ℕ) → get_or table x false ≡ false
 
-abbrev pub ones : List ℕ → ℕ
-ones [] = 0
-ones (x ∷ l) = cond (eqb x 1) (suc (ones l)) (ones l)
+abbrev pub trues : List Bool → ℕ
+trues [] = 0
+trues (x ∷ l) = cond x (suc (trues l)) (trues l)
 
-pub record Listable (seen blocks : List ℕ) : Type 0 where
+pub record Listable (seen blocks : List Bool) : Type 0 where
   pub seen_long : length seen ≡ 65536
   pub blocks_long : length blocks ≡ 1024
-  pub blocked : (x : ℕ) → get_or seen x 0 ≡ 1 → get_or blocks (x / block_size) 0 ≡ 1
-  pub few : ones seen ≤ line_limit
+  pub blocked : (x : ℕ) → get_or seen x false ≡ true → get_or blocks (x / block_size) false ≡ true
+  pub few : trues seen ≤ line_limit
 
-pub record NamesNoted (ls : List Line) (seen blocks : List ℕ) : Type 0 where
+pub record NamesNoted (ls : List Line) (seen blocks : List Bool) : Type 0 where
   pub table : CitedTable ls seen
   pub tables : Listable seen blocks
 
-pub record Listed (seen names : List ℕ) (n : ℕ) : Type 0 where
-  pub only : (i : ℕ) → i < n → get_or seen (get_or names i 0) 0 ≡ 1
-  pub every : (x : ℕ) → get_or seen x 0 ≡ 1 → (i : ℕ) × (i < n) × (get_or names i 0 ≡ x)
+pub record Listing (seen : List Bool) (names : List ℕ) (n x : ℕ) : Type 0 where
+  pub room : line_limit ≤ length names
+  pub few : trues seen ≤ line_limit
+  pub counted : n ≤ trues (take x seen)
+  pub only : (i : ℕ) → i < n → get_or seen (get_or names i 0) false ≡ true
+  pub lower : (i : ℕ) → i < n → get_or names i 0 < x
+  pub every : (y : ℕ) → y < x → get_or seen y false ≡ true → (i : ℕ) × (i < n) × (get_or names i 0 ≡ y)
   pub rising : (i j : ℕ) → i < j → j < n → get_or names i 0 < get_or names j 0
+
+pub record Listed (seen : List Bool) (names : List ℕ) (n : ℕ) : Type 0 where
+  pub only : (i : ℕ) → i < n → get_or seen (get_or names i 0) false ≡ true
+  pub every : (x : ℕ) → get_or seen x false ≡ true → (i : ℕ) × (i < n) × (get_or names i 0 ≡ x)
+  pub rising : (i j : ℕ) → i < j → j < n → get_or names i 0 < get_or names j 0
+  pub fits : n ≤ length names
+  pub few : n ≤ line_limit

@@ -13,8 +13,7 @@ use Rattle.proof_claims.specs.Claims.{Fit}
 
 pub shape_fit : (t : Terms) (e : Equations) (o : Option Equation) → Shape t e → offer_below t.count o ≡ true → Fit t e o
 shape_fit t e o s h = record {
-  nodes = s.terms.few;
+  terms = record { nodes = s.terms.few; children = λ u k. s.terms.arities u (omega (arith, k, s.terms.few)) };
   equations = s.equations.few;
-  children = λ u k. s.terms.arities u (omega (arith, k, s.terms.few));
   offer = offer_within t.count 64 s.terms.few o h;
 }

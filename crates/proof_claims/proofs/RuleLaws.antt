@@ -1,58 +1,51 @@
--- What a line claims, rule by rule, and what a claim asks of its line.
-use mathlib.Core.Path.{◌≡◌, refl, sym, ◌∙◌}
-use mathlib.Core.Bool.{Bool, true, false, and-false}
-use mathlib.Core.List.{List}
-use mathlib.Core.Option.{Option, none}
-use borrow.Author.Tests.{ne_eqb}
+-- What a line claims, rule by rule.
+use Rattle.std.proofs.Common.{◌≡◌, refl, sym, ◌∙◌, Bool, true, false, List}
+use Rattle.std.proofs.Math.Option.{Option, none}
 use Rattle.graph.specs.State.{State}
 use Rattle.graph.specs.Lines.{Line, Claim, need, by_equation, by_child, by_reflexivity, by_symmetry, by_transitivity, by_down, tidy, by_rule, claim_of}
+use Rattle.proof_lines.specs.declared.Rule.{Rule}
+use Rattle.proof_lines.specs.declared.Rule.TheVariants.{Equation, Child, Reflexivity, Symmetry, Transitivity, Down}
+use Rattle.proof_lines.specs.Reading.{number_of}
+use borrow.Author.Tests.{ne_eqb}
 
-need_none : {A : Type 0} (b : Bool) → need {A = A} b none ≡ none
+need_none : {A : Type 0} (b : Bool) → none ≡ need {A = A} b none
 need_none true = refl
 need_none false = refl
 
--- bytes 6 and 7 are to be zero
-tidy_reserved : (l : Line) → (l.reserved ≡ 0 → ⊥) → tidy l ≡ false
-unfolding tidy
-tidy_reserved l h = rw (ne_eqb _ _ h) (simp and-false)
-
--- b is the code's answer to whether the line is tidy, o its answer to what the rule claims
 module _ (s : State) (done : List Claim) (l : Line) where
+  -- what a rule claims of the line
+  abbrev pub claim_under : Rule → Option Claim
+  claim_under Equation = by_equation s.equations l.first
+  claim_under Child = by_child s.nodes l.first l.place
+  claim_under Reflexivity = by_reflexivity s.nodes l.first
+  claim_under Symmetry = by_symmetry done l.first
+  claim_under Transitivity = by_transitivity done l.first l.second
+  claim_under Down = by_down s.nodes done l.first l.place
+
+  ruled : (r : Rule) → number_of r ≡ l.rule → claim_under r ≡ by_rule s done l
+  unfolding by_rule
+  ruled Equation e = rw (← e)
+  ruled Child e = rw (← e)
+  ruled Reflexivity e = rw (← e)
+  ruled Symmetry e = rw (← e)
+  ruled Transitivity e = rw (← e)
+  ruled Down e = rw (← e)
+
+  -- b is the code's answer to whether the line is tidy
   pub claim_untidy : (b : Bool) → b ≡ tidy l → b ≡ false → none ≡ claim_of s done l
   unfolding claim_of
   claim_untidy b d e = let q : tidy l ≡ false = cc in rw q
 
-  pub claim_reserved : (l.reserved ≡ 0 → ⊥) → claim_of s done l ≡ none
-  claim_reserved h = sym (claim_untidy false (sym (tidy_reserved l h)) refl)
-
-  pub claim_other : (l.rule ≡ 1 → ⊥) → (l.rule ≡ 2 → ⊥) → (l.rule ≡ 3 → ⊥) → (l.rule ≡ 4 → ⊥) → (l.rule ≡ 5 → ⊥) → (l.rule ≡ 6 → ⊥) → none ≡ claim_of s done l
+  pub claim_unruled : ((r : Rule) → number_of r ≡ l.rule → ⊥) → none ≡ claim_of s done l
   unfolding claim_of by_rule
-  claim_other a b c d e f = rw (ne_eqb _ _ a, ne_eqb _ _ b, ne_eqb _ _ c, ne_eqb _ _ d, ne_eqb _ _ e, ne_eqb _ _ f) (sym (need_none (tidy l)))
+  claim_unruled n =
+      rw (ne_eqb l.rule 1 (λ e. n Equation (sym e)), ne_eqb l.rule 2 (λ e. n Child (sym e)), ne_eqb l.rule 3 (λ e. n Reflexivity (sym e)), ne_eqb l.rule 4 (λ e. n Symmetry (sym e)), ne_eqb l.rule 5 (λ e. n Transitivity (sym e)), ne_eqb l.rule 6 (λ e. n Down (sym e)))
+      (need_none (tidy l))
 
-  module _ (b : Bool) (d : b ≡ tidy l) (t : b ≡ true) (o : Option Claim) where
-    kept : tidy l ≡ true
-    kept = sym d ∙ t
-
-    pub claim_1 : l.rule ≡ 1 → o ≡ by_equation s.equations l.first → o ≡ claim_of s done l
-    unfolding claim_of by_rule
-    claim_1 e q = rw (kept, e) q
-
-    pub claim_2 : l.rule ≡ 2 → o ≡ by_child s.nodes l.first l.place → o ≡ claim_of s done l
-    unfolding claim_of by_rule
-    claim_2 e q = rw (kept, e) q
-
-    pub claim_3 : l.rule ≡ 3 → o ≡ by_reflexivity s.nodes l.first → o ≡ claim_of s done l
-    unfolding claim_of by_rule
-    claim_3 e q = rw (kept, e) q
-
-    pub claim_4 : l.rule ≡ 4 → o ≡ by_symmetry done l.first → o ≡ claim_of s done l
-    unfolding claim_of by_rule
-    claim_4 e q = rw (kept, e) q
-
-    pub claim_5 : l.rule ≡ 5 → o ≡ by_transitivity done l.first l.second → o ≡ claim_of s done l
-    unfolding claim_of by_rule
-    claim_5 e q = rw (kept, e) q
-
-    pub claim_6 : l.rule ≡ 6 → o ≡ by_down s.nodes done l.first l.place → o ≡ claim_of s done l
-    unfolding claim_of by_rule
-    claim_6 e q = rw (kept, e) q
+  -- x is the code's answer to which rule it is, o its answer to what the rule claims
+  pub claim_ruled : (b : Bool) → b ≡ tidy l → b ≡ true → (x r : Rule) → number_of x ≡ l.rule → x ≡ r → (o : Option Claim) → o ≡ claim_under r → o ≡ claim_of s done l
+  unfolding claim_of
+  claim_ruled b d t x r n e o q =
+      let k : tidy l ≡ true = cc in
+      let m : number_of r ≡ l.rule = rw e at n in
+      rw k (q ∙ ruled r m)

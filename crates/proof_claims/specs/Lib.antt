@@ -1,2 +1,2 @@
--- What one line claims, over lent arrays.
+-- What one line claims.
 pub mod Claims

@@ -1,149 +1,89 @@
-// The rules that cite lines, and what one line claims, over lent arrays of nodes, equations and earlier claims.
+// The rules that cite lines, and what one line claims after the claims of the lines before it.
 #![tactic(auto)]
 
-ghost use Rattle.std.specs.Prelude.{◌≡◌, ℕ, ◌≤◌, ◌<◌, get_or};
-ghost use Rattle.graph.specs.Limits.{node_limit, child_limit, line_limit};
+ghost use Rattle.std.specs.Prelude.{◌≡◌};
+ghost use Rattle.std.proofs.Math.ListN.{get_elem?};
+ghost use Rattle.std.specs.Option.{option_copied};
 ghost use Rattle.graph.specs.State.{with_offer};
 ghost use Rattle.graph.specs.Lines.{by_symmetry, by_transitivity, by_down, claim_of};
-ghost use Rattle.store.specs.Views.{terms, equations, nodes_of, state_from};
-ghost use Rattle.proof_lines.specs.Reading.{line_of};
-ghost use Rattle.proof_rules.specs.Rules.{offer_of, claimed};
+ghost use Rattle.store.specs.Views.{nodes_of, state_from};
+ghost use Rattle.proof_lines.specs.Reading.{line_seen};
+ghost use Rattle.proof_rules.specs.Rules.{offer_of, claimed, WithinLimits};
 ghost use Rattle.proof_claims.specs.Claims.{Fit, claims_of};
-ghost use Rattle.store.specs.declared.Terms.{Terms};
-ghost use Rattle.store.specs.declared.Equations.{Equations};
 
-use proof_lines::Fields;
-use proof_rules::{BELOW, Claimed, OfferAsked, SAME};
+use proof_lines::{Line, Rule};
+use proof_rules::{Claim, ClaimKind, Offer};
+use store::{Equations, Terms};
 
-// Rule 4, after `n` claims.
-fn by_symmetry<'a>(
-    kinds: &'a [u8; 8192],
-    starts: &'a [u8; 8192],
-    ends: &'a [u8; 8192],
-    n: usize,
-    i: u16,
-) -> Claimed
-    requires { n ≤ line_limit }
-    ensures { claimed result ≡ by_symmetry (claims_of kinds.now starts.now ends.now n) i }
+// The claim of an earlier line.
+#[tactic(auto, using(crate::proofs::ClaimLaws::cited_is))]
+fn cited(claims: &[Claim], i: u16) -> Option<&Claim>
+    ensures { claimed (option_copied result) ≡ get_elem? (claims_of claims.now) i }
 {
-    let a = i as usize;
-    if a >= n {
-        return Claimed::Breaks;
-    }
-    let ks: &[u8] = kinds;
-    let us: &[u8] = starts;
-    let vs: &[u8] = ends;
-    if ks[a] == SAME {
-        Claimed::Claims(SAME, vs[a], us[a])
-    } else {
-        Claimed::Breaks
+    claims.get(usize::from(i))
+}
+
+// Rule 4.
+fn by_symmetry(claims: &[Claim], i: u16) -> Option<Claim>
+    ensures { claimed result ≡ by_symmetry (claims_of claims.now) i }
+{
+    let c = cited(claims, i)?;
+    match c.kind {
+        ClaimKind::Same => Some(Claim::same(c.end, c.start)),
+        ClaimKind::Below => None,
     }
 }
 
-// Rule 5, after `n` claims.
-fn by_transitivity<'a>(
-    kinds: &'a [u8; 8192],
-    starts: &'a [u8; 8192],
-    ends: &'a [u8; 8192],
-    n: usize,
-    i: u16,
-    j: u16,
-) -> Claimed
-    requires { n ≤ line_limit }
-    ensures { claimed result ≡ by_transitivity (claims_of kinds.now starts.now ends.now n) i j }
+// Rule 5.
+fn by_transitivity(claims: &[Claim], i: u16, j: u16) -> Option<Claim>
+    ensures { claimed result ≡ by_transitivity (claims_of claims.now) i j }
 {
-    let a = i as usize;
-    let b = j as usize;
-    if a >= n {
-        return Claimed::Breaks;
+    let c = cited(claims, i)?;
+    let d = cited(claims, j)?;
+    if c.end != d.start {
+        return None;
     }
-    if b >= n {
-        return Claimed::Breaks;
-    }
-    let ks: &[u8] = kinds;
-    let us: &[u8] = starts;
-    let vs: &[u8] = ends;
-    if vs[a] != us[b] {
-        return Claimed::Breaks;
-    }
-    if ks[a] != SAME {
-        return Claimed::Claims(BELOW, us[a], vs[b]);
-    }
-    if ks[b] != SAME {
-        return Claimed::Claims(BELOW, us[a], vs[b]);
-    }
-    Claimed::Claims(SAME, us[a], vs[b])
-}
-
-// Rule 6, after `k` claims.
-fn by_down<'a>(
-    kind: &'a [u8; 64],
-    symbol: &'a [u16; 64],
-    arity: &'a [u8; 64],
-    child: &'a [u8; 256],
-    n: usize,
-    kinds: &'a [u8; 8192],
-    starts: &'a [u8; 8192],
-    ends: &'a [u8; 8192],
-    k: usize,
-    i: u16,
-    p: u8,
-) -> Claimed
-    requires { (n ≤ node_limit) × ((x : ℕ) → x < n → get_or arity.now x 0 ≤ child_limit) × (k ≤ line_limit) }
-    ensures { claimed result ≡ by_down (nodes_of (terms n kind.now symbol.now arity.now child.now)) (claims_of kinds.now starts.now ends.now k) i p }
-{
-    let c = i as usize;
-    if c >= k {
-        return Claimed::Breaks;
-    }
-    let ks: &[u8] = kinds;
-    let us: &[u8] = starts;
-    let vs: &[u8] = ends;
-    if ks[c] == SAME {
-        proof_rules::down(kind, symbol, arity, child, n, p, us[c], vs[c])
-    } else {
-        Claimed::Breaks
+    match (c.kind, d.kind) {
+        (ClaimKind::Same, ClaimKind::Same) => Some(Claim::same(c.start, d.end)),
+        _ => Some(Claim::below(c.start, d.end)),
     }
 }
 
-// What line `k` claims, after the claims of the `k` lines before it.
-pub fn claim<'a>(
-    kind: &'a [u8; 64],
-    symbol: &'a [u16; 64],
-    arity: &'a [u8; 64],
-    child: &'a [u8; 256],
-    n: usize,
-    name: &'a [u16; 256],
-    left: &'a [u8; 256],
-    right: &'a [u8; 256],
-    m: usize,
-    o: OfferAsked,
-    kinds: &'a [u8; 8192],
-    starts: &'a [u8; 8192],
-    ends: &'a [u8; 8192],
-    k: usize,
-    l: Fields,
-) -> Claimed
-    ghost w: { Terms × Equations }
-    requires right_value { (terms n kind.now symbol.now arity.now child.now, equations m name.now left.now right.now) ≡ w }
-    requires fit { Fit w.0 w.1 (offer_of o) × (k ≤ line_limit) }
-    ensures { claimed result ≡ claim_of (with_offer (state_from w.0 w.1) (offer_of o)) (claims_of kinds.now starts.now ends.now k) (line_of l) }
+// Rule 6.
+fn by_down(t: &Terms, claims: &[Claim], i: u16, p: u8) -> Option<Claim>
+    requires { WithinLimits t.now }
+    ensures { claimed result ≡ by_down (nodes_of t.now) (claims_of claims.now) i p }
+{
+    let c = cited(claims, i)?;
+    let ClaimKind::Same = c.kind else {
+        return None;
+    };
+    proof_rules::down(t, p, c.start, c.end)
+}
+
+// What a line claims, after the claims of the lines before it.
+pub fn claim(
+    t: &Terms,
+    e: &Equations,
+    o: Option<Offer>,
+    claims: &[Claim],
+    l: &Line,
+) -> Option<Claim>
+    requires { Fit t.now e.now (offer_of o) }
+    ensures { claimed result ≡ claim_of (with_offer (state_from t.now e.now) (offer_of o)) (claims_of claims.now) (line_seen l.now) }
 {
     if !proof_lines::tidy(l) {
-        return Claimed::Breaks;
+        return None;
     }
-    let rule = l.rule;
-    let first = l.first;
-    let place = l.place;
+    let Ok(rule) = Rule::try_from(l.fields.rule) else {
+        return None;
+    };
     match rule {
-        1 => proof_rules::by_equation(name, left, right, m, o, first),
-        2 => proof_rules::by_child(kind, symbol, arity, child, n, first, place),
-        3 => proof_rules::by_reflexivity(n, first),
-        4 => by_symmetry(kinds, starts, ends, k, first),
-        5 => by_transitivity(kinds, starts, ends, k, first, l.second),
-        6 => by_down(
-            kind, symbol, arity, child, n, kinds, starts, ends, k, first, place,
-        ),
-        _ => Claimed::Breaks,
+        Rule::Equation => proof_rules::by_equation(e, o, l.fields.first),
+        Rule::Child => proof_rules::by_child(t, l.fields.first, l.fields.place),
+        Rule::Reflexivity => proof_rules::by_reflexivity(t.count, l.fields.first),
+        Rule::Symmetry => by_symmetry(claims, l.fields.first),
+        Rule::Transitivity => by_transitivity(claims, l.fields.first, l.fields.second),
+        Rule::Down => by_down(t, claims, l.fields.first, l.fields.place),
     }
 }

@@ -9,10 +9,15 @@ use native.Mathlib.Nat.{div-add-mod', eq-zero-or-pos}
 use native.Mathlib.Omega.{arith}
 use lib.ListN.{length, get_or, drop, take, length-drop}
 use lib.Seq.{take_all, take-length, drop-append-add, drop-drop, paste}
+use Rattle.std.specs.List.{starts_with}
+use Rattle.std.proofs.lemmas.Bool.Decides.{nat_tests}
 use lib.Dec.{eqb, ltb}
 use borrow.Author.Tests.{eqb-true, eqb-false, eq-eqb, ne_eqb, ltb-false, le-ltb, not-true}
 use Rattle.base.proofs.AbsurdLaws.{zero_is_one}
 use Rattle.base.proofs.BoolLaws.{and_left, and_right}
+use Rattle.std.specs.Prelude.{Result, is_err}
+use Rattle.refusals.specs.declared.Refusal.{Refusal}
+use Rattle.refusals.specs.declared.Refusal.TheVariants.{NotAProofFile, BadFileLength}
 use Rattle.graph.specs.Limits.{line_limit}
 use Rattle.proof_lines.specs.Codec.{two}
 use Rattle.proof_check.specs.Answers.{bad_length}
@@ -20,17 +25,16 @@ use Rattle.proof_check.proofs.LengthLaws.{length_whole, whole_length}
 use Rattle.proof_file.specs.File.{header_of, file_of, is_marked, is_counted, file_refusal, lines_or, lines_in}
 use Rattle.proof_file.specs.RoundTrip.{ReadBack, RoundTrip}
 use Rattle.proof_file.specs.Promises.{read_reply}
-use Rattle.proof_file.specs.declared.ReadReply.TheVariants as read
 
 -- ---- what a reply tells
 
-pub reply_readable : (o : Option ℕ) → read_reply o ≡ read.Readable → o ≡ none
+pub reply_readable : (o : Option Refusal) → is_err (read_reply o) ≡ false → o ≡ none
 reply_readable none e = refl
 reply_readable (some k) e = zero_is_one cc
 
-pub reply_refused : (o : Option ℕ) (k : ℕ) → read_reply o ≡ read.Refused k → (f : List ℕ) → lines_or o f ≡ []
-reply_refused none k e f = zero_is_one cc
-reply_refused (some j) k e f = refl
+pub reply_refused : (o : Option Refusal) → is_err (read_reply o) ≡ true → (f : List ℕ) → lines_or o f ≡ []
+reply_refused none e f = zero_is_one cc
+reply_refused (some k) e f = refl
 
 -- what a file that isn't refused has
 pub record Readable (f : List ℕ) : Type 0 where
@@ -43,21 +47,35 @@ unfolding file_refusal
 readable f e = go (ltb (length f) 7) refl (is_marked f) refl (is_counted f) refl e
   where
     go : (a : Bool) → ltb (length f) 7 ≡ a → (b : Bool) → is_marked f ≡ b → (c : Bool) → is_counted f ≡ c
-        → cond {A = Option ℕ} a (some 15) (cond b (cond c none (some 15)) (some 14)) ≡ none → Readable f
+        → cond {A = Option Refusal} a (some BadFileLength) (cond b (cond c none (some BadFileLength)) (some NotAProofFile)) ≡ none → Readable f
     go true p b q c r e = zero_is_one cc
     go false p false q c r e = zero_is_one cc
     go false p true q false r e = zero_is_one cc
     go false p true q true r e = record { long = ltb-false (length f) 7 p; marked = q; counted = r }
 
-module _ (f : List ℕ) (e : read_reply (file_refusal f) ≡ read.Readable) where
-  pub readable_long : 7 ≤ length f
-  readable_long = (readable f (reply_readable (file_refusal f) e)).long
+module _ (f : List ℕ) (r : Result (Unit {0}) Refusal) (h : r ≡ read_reply (file_refusal f)) where
+  module _ (e : is_err r ≡ false) where
+    open_file : file_refusal f ≡ none
+    open_file = reply_readable (file_refusal f) (rw h at e)
 
-  pub readable_lines : take (length f - 7) (drop 7 f) ≡ lines_in f
-  readable_lines = rw (reply_readable (file_refusal f) e) (take_all (length f - 7) (drop 7 f) (rw length-drop (omega arith)))
+    pub readable_long : 7 ≤ length f
+    readable_long = (readable f open_file).long
 
-pub refused_lines : (f : List ℕ) (k : ℕ) → read_reply (file_refusal f) ≡ read.Refused k → ◌≡◌ {A = List ℕ} [] (lines_in f)
-refused_lines f k e = sym (reply_refused (file_refusal f) k e f)
+    pub readable_lines : take (length f - 7) (drop 7 f) ≡ lines_in f
+    readable_lines = rw open_file (take_all (length f - 7) (drop 7 f) (rw length-drop (omega arith)))
+
+  pub refused_lines : is_err r ≡ true → ◌≡◌ {A = List ℕ} [] (lines_in f)
+  refused_lines e = sym (reply_refused (file_refusal f) (rw h at e) f)
+
+-- the mark and the version are the first five bytes
+pub mark_begins : (f : List ℕ) → starts_with eqb f (80 ∷ 84 ∷ 72 ∷ 0 ∷ 1 ∷ []) ≡ is_marked f
+unfolding is_marked
+mark_begins [] = refl
+mark_begins (a ∷ []) = grind (arith, nat_tests)
+mark_begins (a ∷ (b ∷ [])) = grind (arith, nat_tests)
+mark_begins (a ∷ (b ∷ (c ∷ []))) = grind (arith, nat_tests)
+mark_begins (a ∷ (b ∷ (c ∷ (d ∷ [])))) = grind (arith, nat_tests)
+mark_begins (a ∷ (b ∷ (c ∷ (d ∷ (e ∷ r))))) = grind (arith, nat_tests)
 
 -- ---- lines that are written
 

@@ -2,115 +2,74 @@
 #![tactic(auto)]
 
 ghost use Rattle.std.specs.Prelude.{◌≡◌, ◌+◌, ◌≤◌, ◌<◌, ◌++◌, length, drop};
-ghost use Rattle.std.proofs.Math.Seq.{paste};
 ghost use Rattle.proof_file.specs.File.{is_marked, is_counted, file_refusal, lines_in, header_of};
 ghost use Rattle.proof_file.specs.Promises.{read_reply, Writes};
 
-#[derive(Clone, Copy)]
-pub enum WriteReply {
-    Wrote(usize),
-    Refused(u8),
-}
-
-#[derive(Clone, Copy)]
-pub enum ReadReply {
-    Readable,
-    Refused(u8),
-}
+use refusals::Refusal;
 
 fn put_header(out: &mut [u8], count: u16)
     requires { 7 ≤ length out.old }
     ensures { out.new ≡ header_of count ++ drop 7 out.old }
 {
-    out[0] = b'P';
-    out[1] = b'T';
-    out[2] = b'H';
-    out[3] = 0;
-    out[4] = 1;
-    out[5] = (count / 256) as u8;
-    out[6] = (count % 256) as u8;
-}
-
-fn put_lines(out: &mut [u8], lines: &[u8])
-    requires { 7 + length lines.now ≤ length out.old }
-    ensures { out.new ≡ paste out.old 7 lines.now (length lines.now) }
-{
-    let mut i = 0;
-    while i < lines.len() {
-        out[7 + i] = lines[i];
-        i += 1;
-    }
+    let [high, low] = count.to_be_bytes();
+    out[..7].copy_from_slice(&[b'P', b'T', b'H', 0, 1, high, low]);
 }
 
 // The file of these lines, which no rule is held against; gives the number of bytes.
-pub fn write(lines: &[u8], out: &mut [u8]) -> WriteReply
+pub fn write(lines: &[u8], out: &mut [u8]) -> Result<usize, Refusal>
     ensures { Writes lines.now out.old out.new result }
 {
     let size = lines.len();
     if proof_check::bad_length(size) {
-        return WriteReply::Refused(11);
+        return Err(Refusal::BadLength);
     }
     if out.len() < 7 + size {
-        return WriteReply::Refused(17);
+        return Err(Refusal::ShortOutput);
     }
     put_header(out, (size / 8) as u16);
-    put_lines(out, lines);
-    WriteReply::Wrote(7 + size)
+    out[7..7 + size].copy_from_slice(lines);
+    Ok(7 + size)
 }
 
+#[tactic(auto, using(crate::proofs::FileLaws::mark_begins))]
 fn is_marked(file: &[u8]) -> bool
-    requires { 7 ≤ length file.now }
     ensures { result ≡ is_marked file.now }
 {
-    if file[0] != b'P' {
-        return false;
-    }
-    if file[1] != b'T' {
-        return false;
-    }
-    if file[2] != b'H' {
-        return false;
-    }
-    proof_lines::pair(file, 3) == 1
+    file.starts_with(&[b'P', b'T', b'H', 0, 1])
 }
 
+#[tactic(auto, unfolding(crate::specs::File::is_counted))]
 fn is_counted(file: &[u8]) -> bool
     requires { 7 ≤ length file.now }
     ensures { result ≡ is_counted file.now }
 {
-    let count = proof_lines::pair(file, 5) as usize;
-    if count == 0 {
-        return false;
-    }
-    if graph::LINES < count {
-        return false;
-    }
-    file.len() == 7 + 8 * count
+    let count = usize::from(proof_lines::pair(file, 5));
+    count != 0 && count <= graph::LINES && file.len() == 7 + 8 * count
 }
 
 // Whether a file can be read, or the refusal: the call beside `read`.
-pub fn read_reply(file: &[u8]) -> ReadReply
+#[tactic(auto, unfolding(crate::specs::File::file_refusal))]
+pub fn read_reply(file: &[u8]) -> Result<(), Refusal>
     ensures { result ≡ read_reply (file_refusal file.now) }
 {
     if file.len() < 7 {
-        return ReadReply::Refused(15);
+        return Err(Refusal::BadFileLength);
     }
     if !is_marked(file) {
-        return ReadReply::Refused(14);
+        return Err(Refusal::NotAProofFile);
     }
     if !is_counted(file) {
-        return ReadReply::Refused(15);
+        return Err(Refusal::BadFileLength);
     }
-    ReadReply::Readable
+    Ok(())
 }
 
 // The lines, as a part of the file's bytes; an empty part where the file can't be read.
 pub fn read(file: &[u8]) -> &[u8]
     ensures { result.now ≡ lines_in file.now }
 {
-    let ReadReply::Readable = read_reply(file) else {
-        return &file[0..0];
-    };
-    let end = file.len();
-    &file[7..end]
+    if read_reply(file).is_err() {
+        return &file[..0];
+    }
+    &file[7..]
 }

@@ -3,7 +3,6 @@ use mathlib.Core.Path.{◌≡◌, refl, ◌∙◌}
 use mathlib.Core.List.{List, [], ◌∷◌}
 use Prim.Native.Nat.{ℕ, zero, suc, ◌+◌, ◌*◌, ◌/◌, ◌%◌, ◌≤◌, ◌<◌}
 use native.Mathlib.Omega.{arith}
-use native.Mathlib.Nat.{div-add-mod'}
 use lib.ListN.{length, get_or, set, length-set}
 use lib.Seq.{sets, length-sets, get_or-set_same, get_or-set_other}
 use Rattle.proof_lines.specs.Codec.{two, line_from, line, Put}
@@ -25,12 +24,12 @@ at (v ∷ vs) l i (suc j) k h g e = at vs (set l i v) (suc i) j k (rw length-set
 
 module _ (l : List ℕ) (o r p f g : ℕ) where
   bytes : List ℕ
-  bytes = r ∷ p ∷ (f / 256) ∷ (f % 256) ∷ (g / 256) ∷ (g % 256) ∷ 0 ∷ 0 ∷ []
+  bytes = r ∷ p ∷ (f / 256 % 256) ∷ (f % 256) ∷ (g / 256 % 256) ∷ (g % 256) ∷ 0 ∷ 0 ∷ []
 
   -- what the eight stores leave
   abbrev pub stored : List ℕ
   stored =
-      set (set (set (set (set (set (set (set l o r) (o + 1) p) (o + 2) (f / 256)) (o + 3) (f % 256)) (o + 4) (g / 256)) (o + 5) (g % 256)) (o + 6) 0) (o + 7) 0
+      set (set (set (set (set (set (set (set l o r) (o + 1) p) (o + 2) (f / 256 % 256)) (o + 3) (f % 256)) (o + 4) (g / 256 % 256)) (o + 5) (g % 256)) (o + 6) 0) (o + 7) 0
 
   is_sets : stored ≡ sets l o bytes
   unfolding bytes
@@ -44,7 +43,7 @@ module _ (l : List ℕ) (o r p f g : ℕ) where
       let e7 : o + 7 ≡ suc (suc (suc (suc (suc (suc (suc o)))))) = omega arith in
       cc
 
-  module _ (h : o + 8 ≤ length l) where
+  module _ (h : o + 8 ≤ length l) (small : f < 65536) (small' : g < 65536) where
     byte : (j k : ℕ) → j < 8 → k ≡ o + j → get_or (sets l o bytes) k 0 ≡ get_or bytes j 0
     unfolding bytes
     byte j k g e = at bytes l o j k h g e
@@ -55,21 +54,21 @@ module _ (l : List ℕ) (o r p f g : ℕ) where
         let q0 : get_or (sets l o bytes) o 0 ≡ r = byte 0 o (omega arith) (omega arith) in
         let q1 : get_or (sets l o bytes) (o + 1) 0 ≡ p = byte 1 (o + 1) (omega arith) (omega arith) in
         let q2 : two (sets l o bytes) (o + 2) ≡ f =
-        (rw (byte 2 (o + 2) (omega arith) (omega arith), byte 3 (o + 2 + 1) (omega arith) (omega arith)) (div-add-mod' f 256)) in
+        (rw (byte 2 (o + 2) (omega arith) (omega arith), byte 3 (o + 2 + 1) (omega arith) (omega arith)) (omega arith)) in
         let q4 : two (sets l o bytes) (o + 4) ≡ g =
-        (rw (byte 4 (o + 4) (omega arith) (omega arith), byte 5 (o + 4 + 1) (omega arith) (omega arith)) (div-add-mod' g 256)) in
+        (rw (byte 4 (o + 4) (omega arith) (omega arith), byte 5 (o + 4 + 1) (omega arith) (omega arith)) (omega arith)) in
         let q6 : two (sets l o bytes) (o + 6) ≡ 0 =
         (rw (byte 6 (o + 6) (omega arith) (omega arith), byte 7 (o + 6 + 1) (omega arith) (omega arith))) in
         cc
 
-pub put : (l : List ℕ) (n r p f g : ℕ) → 8 * n + 8 ≤ length l → Put l n (line r p f g) (stored l (8 * n) r p f g)
+pub put : (l : List ℕ) (n r p f g : ℕ) → 8 * n + 8 ≤ length l → f < 65536 → g < 65536 → Put l n (line r p f g) (stored l (8 * n) r p f g)
 unfolding bytes
-put l n r p f g h =
+put l n r p f g h small small' =
     let b = bytes l (8 * n) r p f g in
     rw (is_sets l (8 * n) r p f g)
     record {
       size = length-sets l (8 * n) b;
-      at = whole l (8 * n) r p f g h;
+      at = whole l (8 * n) r p f g h small small';
       before = λ i k. before b l (8 * n) i (omega arith);
       past = λ i k. past b l (8 * n) i (omega arith);
     }

@@ -1,21 +1,20 @@
 -- What a decoded line says of the bytes; the whole lines of a part.
-use mathlib.Core.Path.{◌≡◌, refl, sym, ◌∙◌}
+use mathlib.Core.Path.{◌≡◌, refl, ap}
 use mathlib.Core.Bool.{Bool, true, false, cond}
 use mathlib.Core.List.{List}
 use mathlib.Core.Option.{some}
+use Rattle.std.specs.Prelude.{Some, None}
 use Prim.Native.Nat.{ℕ, ◌+◌, ◌*◌, ◌/◌, ◌≤◌, ◌<◌}
 use native.Mathlib.Omega.{arith}
 use lib.ListN.{length, get_or, get_elem?, take}
 use lib.Seq.{get_or-take, length-take-le}
-use lib.Dec.{eqb}
-use borrow.Author.Tests.{lt-ltb, eqb-true}
-use Rattle.base.proofs.AbsurdLaws.{zero_is_one}
+use lib.Dec.{ltb}
+use borrow.Author.Tests.{ltb-true}
 use Rattle.base.proofs.TabLaws.{tab_at, tab_get_d, tab_length, tab_same}
 use Rattle.graph.specs.Lines.{Line}
-use Rattle.proof_lines.specs.declared.Fields.{Fields}
-use Rattle.proof_lines.specs.declared.Decoded.TheVariants.{Whole, Reserved}
+use Rattle.proof_lines.specs.declared.Line.{Line as LineRead}
 use Rattle.proof_lines.specs.Codec.{line_at, first_lines, lines_of}
-use Rattle.proof_lines.specs.Reading.{line_of, fields_of, decoded_of, decoded}
+use Rattle.proof_lines.specs.Reading.{line_seen, read_of, decoded}
 
 pub lines_length : (bs : List ℕ) → length (lines_of bs) ≡ length bs / 8
 unfolding first_lines
@@ -29,27 +28,13 @@ pub lines_found : (bs : List ℕ) (i : ℕ) → i < length bs / 8 → get_elem? 
 unfolding first_lines
 lines_found bs i h = tab_at (length bs / 8) (line_at bs) i h
 
-module _ (l : Line) where
-  pub whole_of : (f : Fields) → decoded_of l ≡ Whole f → l ≡ line_of f
-  whole_of f e = go (eqb l.reserved 0) refl e
-    where
-      go : (b : Bool) → eqb l.reserved 0 ≡ b → cond b (Whole (fields_of l)) (Reserved (fields_of l) l.reserved) ≡ Whole f → l ≡ line_of f
-      go true q e = let z : l.reserved ≡ 0 = eqb-true l.reserved 0 q in let y : fields_of l ≡ f = cc in rw (← y, z)
-      go false q e = zero_is_one cc
-
-  pub not_whole : ((f : Fields) → decoded_of l ≡ Whole f → ⊥) → l.reserved ≡ 0 → ⊥
-  not_whole n z = n (fields_of l) (rw z)
-
-module _ (bs : List ℕ) (i : ℕ) (h : i < length bs / 8) where
-  here : decoded bs i ≡ decoded_of (line_at bs i)
-  here = rw (lt-ltb i (length bs / 8) h)
-
-  pub decoded_whole : (f : Fields) → decoded bs i ≡ Whole f → line_at bs i ≡ line_of f
-  decoded_whole f e = whole_of (line_at bs i) f (sym here ∙ e)
-
-  -- a line number in range is refused only for its reserved bytes
-  pub decoded_refused : ((f : Fields) → decoded bs i ≡ Whole f → ⊥) → (line_at bs i).reserved ≡ 0 → ⊥
-  decoded_refused n = not_whole (line_at bs i) (λ f e. n f (here ∙ e))
+-- a line that was decoded stands in the bytes
+pub decoded_line : (bs : List ℕ) (i : ℕ) (l : LineRead) → decoded bs i ≡ Some l → (i < length bs / 8) × (line_seen l ≡ line_at bs i)
+decoded_line bs i l e = go (ltb i (length bs / 8)) refl e
+  where
+    go : (b : Bool) → ltb i (length bs / 8) ≡ b → cond b (Some (read_of (line_at bs i))) None ≡ Some l → (i < length bs / 8) × (line_seen l ≡ line_at bs i)
+    go true q e = let z : l ≡ read_of (line_at bs i) = cc in (ltb-true _ _ q, ap line_seen z)
+    go false q e = cc
 
 -- the first n lines are the lines of the first 8 n bytes
 part_bytes : (n : ℕ) (bs : List ℕ) (k : ℕ) → 8 * k + 8 ≤ 8 * n → line_at (take (8 * n) bs) k ≡ line_at bs k

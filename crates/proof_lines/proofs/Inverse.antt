@@ -1,5 +1,5 @@
 -- Decoding and encoding are inverse to each other.
-use mathlib.Core.Path.{◌≡◌, refl, sym, ap, ◌∙◌}
+use mathlib.Core.Path.{◌≡◌, refl, ap, ◌∙◌}
 use mathlib.Core.Bool.{Bool, true, false}
 use mathlib.Core.List.{List}
 use Prim.Native.Nat.{ℕ, zero, suc, ◌+◌, ◌-◌, ◌*◌, ◌/◌, ◌≤◌, ◌<◌}
@@ -10,16 +10,17 @@ use lib.Dec.{ltb, leb}
 use borrow.Author.Tests.{lt-ltb, ltb-true, ltb-false, leb-true, leb-false}
 use Rattle.graph.specs.Lines.{Line}
 use Rattle.proof_lines.specs.declared.Fields.{Fields}
-use Rattle.proof_lines.specs.declared.Decoded.TheVariants.{Whole}
+use Rattle.std.specs.Prelude.{Some}
 use Rattle.proof_lines.specs.Codec.{two, line_from, line_at, Put}
-use Rattle.proof_lines.specs.Reading.{line_of, decoded_of, decoded}
-use Rattle.proof_lines.proofs.Decoding.{decoded_whole}
+use Rattle.proof_lines.specs.Reading.{line_of, read_of, decoded}
+use Rattle.proof_lines.proofs.Decoding.{decoded_line}
 
 -- what was encoded is decoded
-pub decode_encode : (bs out : List ℕ) (n : ℕ) (f : Fields) → 8 * n + 8 ≤ length bs → Put bs n (line_of f) out → decoded out n ≡ Whole f
+pub decode_encode : (bs out : List ℕ) (n : ℕ) (f : Fields) → 8 * n + 8 ≤ length bs → Put bs n (line_of f) out
+    → decoded out n ≡ Some (record { fields = f; reserved = 0 })
 decode_encode bs out n f room p =
     let k : n < length out / 8 = let z = p.size in omega arith in
-    rw (lt-ltb n (length out / 8) k) (ap decoded_of p.at)
+    rw (lt-ltb n (length out / 8) k) (ap (λ (l : Line). Some (read_of l)) p.at)
 
 -- two lists of bytes with one line at o have the same eight bytes there
 module _ (bs cs : List ℕ) (small : (i : ℕ) → get_or bs i 0 < 256) (small' : (i : ℕ) → get_or cs i 0 < 256) (o : ℕ) (e : line_from bs o ≡ line_from cs o) where
@@ -42,11 +43,11 @@ module _ (bs cs : List ℕ) (small : (i : ℕ) → get_or bs i 0 < 256) (small' 
 
 -- writing a decoded line where it stood changes no byte
 pub encode_decode : (bs out : List ℕ) (n : ℕ) (f : Fields) → ((i : ℕ) → get_or bs i 0 < 256) → ((i : ℕ) → get_or out i 0 < 256)
-    → 8 * n + 8 ≤ length bs → decoded bs n ≡ Whole f → Put bs n (line_of f) out → out ≡ bs
+    → 8 * n + 8 ≤ length bs → decoded bs n ≡ Some (record { fields = f; reserved = 0 }) → Put bs n (line_of f) out → out ≡ bs
 encode_decode bs out n f small small' room e p = ext_get_or 0 out bs p.size (λ i h. side i (ltb i (8 * n)) refl (leb (8 * n + 8) i) refl)
   where
     one : line_at out n ≡ line_at bs n
-    one = p.at ∙ sym (decoded_whole bs n (omega arith) f e)
+    one = p.at ∙ (decoded_line bs n _ e).1
 
     side : (i : ℕ) (a : Bool) → ltb i (8 * n) ≡ a → (b : Bool) → leb (8 * n + 8) i ≡ b → get_or out i 0 ≡ get_or bs i 0
     side i true q b r = p.before i (ltb-true _ _ q)

@@ -5,10 +5,10 @@ ghost use Rattle.std.specs.Prelude.{◌≡◌, ◌+◌, ◌*◌, ◌≤◌, ◌<
 ghost use Rattle.graph.specs.Limits.{line_limit};
 ghost use Rattle.graph.specs.Lines.{uses_of, used_or_zero, tidy as tidyLine};
 ghost use Rattle.proof_lines.specs.Codec.{two, line, line_at, Put};
-ghost use Rattle.proof_lines.specs.Reading.{line_of, fields_of, decoded, uses_in};
+ghost use Rattle.proof_lines.specs.Reading.{line_of, line_seen, fields_of, decoded, uses_in, Ruled};
 
 // The fields of a line as they stand.
-#[derive(Clone, Copy)]
+#[derive(Clone, Copy, PartialEq, Eq, Debug)]
 pub struct Fields {
     pub rule: u8,
     pub place: u8,
@@ -16,26 +16,55 @@ pub struct Fields {
     pub second: u16,
 }
 
-// What stands at a line number.
-#[derive(Clone, Copy)]
-pub enum Decoded {
-    // A whole line whose reserved bytes are zero.
-    Whole(Fields),
-    // A whole line with another number in its reserved bytes.
-    Reserved(Fields, u16),
-    // No whole line.
-    End,
+// A whole line: its fields, and the number in its reserved bytes.
+#[derive(Clone, Copy, PartialEq, Eq, Debug)]
+pub struct Line {
+    pub fields: Fields,
+    pub reserved: u16,
+}
+
+// The rules, in the order of their numbers, from 1.
+#[derive(Clone, Copy, PartialEq, Eq, Debug)]
+pub enum Rule {
+    Equation,
+    Child,
+    Reflexivity,
+    Symmetry,
+    Transitivity,
+    Down,
+}
+
+// A number that is no rule.
+#[derive(Clone, Copy, PartialEq, Eq, Debug)]
+pub struct NoRule;
+
+impl TryFrom<u8> for Rule {
+    type Error = NoRule;
+
+    ghost try_from_gives = { Ruled };
+
+    fn try_from(number: u8) -> Result<Rule, NoRule> {
+        match number {
+            1 => Ok(Rule::Equation),
+            2 => Ok(Rule::Child),
+            3 => Ok(Rule::Reflexivity),
+            4 => Ok(Rule::Symmetry),
+            5 => Ok(Rule::Transitivity),
+            6 => Ok(Rule::Down),
+            _ => Err(NoRule),
+        }
+    }
 }
 
 // Which fields a rule uses.
-#[derive(Clone, Copy)]
+#[derive(Clone, Copy, PartialEq, Eq, Debug)]
 pub struct Row {
     pub first: bool,
     pub second: bool,
     pub place: bool,
 }
 
-// Rules 1 to 6: equation, child, reflexivity, symmetry, transitivity, down.
+// A row for each rule, in their order.
 const ROWS: [Row; 6] = [
     Row {
         first: true,
@@ -69,10 +98,73 @@ const ROWS: [Row; 6] = [
     },
 ];
 
-fn wide(b: u8) -> u16
-    ensures { (result ≡ b) × (b < 256) }
-{
-    b as u16
+// The fields of a line of each rule; those that it doesn't use are zero.
+impl Fields {
+    pub fn equation(name: u16) -> Fields
+        ensures { line_of result ≡ line 1 0 name 0 }
+    {
+        Fields {
+            rule: 1,
+            place: 0,
+            first: name,
+            second: 0,
+        }
+    }
+
+    pub fn child(node: u16, place: u8) -> Fields
+        ensures { line_of result ≡ line 2 place node 0 }
+    {
+        Fields {
+            rule: 2,
+            place,
+            first: node,
+            second: 0,
+        }
+    }
+
+    pub fn reflexivity(node: u16) -> Fields
+        ensures { line_of result ≡ line 3 0 node 0 }
+    {
+        Fields {
+            rule: 3,
+            place: 0,
+            first: node,
+            second: 0,
+        }
+    }
+
+    pub fn symmetry(cited: u16) -> Fields
+        ensures { line_of result ≡ line 4 0 cited 0 }
+    {
+        Fields {
+            rule: 4,
+            place: 0,
+            first: cited,
+            second: 0,
+        }
+    }
+
+    pub fn transitivity(first: u16, second: u16) -> Fields
+        ensures { line_of result ≡ line 5 0 first second }
+    {
+        Fields {
+            rule: 5,
+            place: 0,
+            first,
+            second,
+        }
+    }
+
+    pub fn down(cited: u16, place: u8) -> Fields
+        ensures { line_of result ≡ line 6 place cited 0 }
+    {
+        Fields {
+            rule: 6,
+            place,
+            first: cited,
+            second: 0,
+        }
+    }
 }
 
 // The 16-bit number at a byte, high byte first.
@@ -80,7 +172,7 @@ pub fn pair(s: &[u8], at: usize) -> u16
     requires { at + 2 ≤ length s.now }
     ensures { result ≡ two s.now at }
 {
-    wide(s[at]) * 256 + wide(s[at + 1])
+    u16::from_be_bytes([s[at], s[at + 1]])
 }
 
 // The fields of line `k`.
@@ -89,88 +181,77 @@ pub fn fields_at(s: &[u8], k: usize) -> Fields
     ensures { result ≡ fields_of (line_at s.now k) }
 {
     let o = 8 * k;
-    let rule = s[o];
-    let place = s[o + 1];
-    let first = pair(s, o + 2);
-    let second = pair(s, o + 4);
     Fields {
-        rule: rule,
-        place: place,
-        first: first,
-        second: second,
+        rule: s[o],
+        place: s[o + 1],
+        first: pair(s, o + 2),
+        second: pair(s, o + 4),
     }
 }
 
-// What stands at line `k`.
-pub fn decode(s: &[u8], k: usize) -> Decoded
+// Line `k`, whatever its reserved bytes, if it is whole.
+pub fn decode(s: &[u8], k: usize) -> Option<Line>
     ensures { result ≡ decoded s.now k }
 {
     if k >= s.len() / 8 {
-        return Decoded::End;
+        return None;
     }
-    let l = fields_at(s, k);
-    let reserved = pair(s, 8 * k + 6);
-    if reserved == 0 {
-        Decoded::Whole(l)
-    } else {
-        Decoded::Reserved(l, reserved)
-    }
+    Some(Line {
+        fields: fields_at(s, k),
+        reserved: pair(s, 8 * k + 6),
+    })
 }
 
 // Writes line `n`, and no byte beside it.
-pub fn put_line(buf: &mut [u8], n: usize, rule: u8, place: u8, first: u16, second: u16)
+pub fn put_line(buf: &mut [u8], n: usize, l: Fields)
     requires { (n < line_limit) × (8 * n + 8 ≤ length buf.old) }
-    ensures { Put buf.old n (line rule place first second) buf.new }
+    ensures { Put buf.old n (line_of l) buf.new }
 {
     let o = 8 * n;
-    buf[o] = rule;
-    buf[o + 1] = place;
-    buf[o + 2] = (first / 256) as u8;
-    buf[o + 3] = (first % 256) as u8;
-    buf[o + 4] = (second / 256) as u8;
-    buf[o + 5] = (second % 256) as u8;
+    let first = l.first.to_be_bytes();
+    let second = l.second.to_be_bytes();
+    // Byte by byte: with `copy_from_slice` the line is built elsewhere first, and then copied.
+    buf[o] = l.rule;
+    buf[o + 1] = l.place;
+    buf[o + 2] = first[0];
+    buf[o + 3] = first[1];
+    buf[o + 4] = second[0];
+    buf[o + 5] = second[1];
     buf[o + 6] = 0;
     buf[o + 7] = 0;
 }
 
 // The table's row for a rule; a number that is no rule uses no field.
+#[tactic(auto, using(crate::proofs::RowLaws::row_at, crate::proofs::RowLaws::no_row))]
 fn row_of(rule: u8) -> Row
     ensures { uses_in result ≡ uses_of rule }
 {
-    if rule < 1 {
-        return Row {
+    let rows = &ROWS; // by value the whole table is copied for each line
+    match rule {
+        1..=6 => rows[usize::from(rule) - 1],
+        _ => Row {
             first: false,
             second: false,
             place: false,
-        };
+        },
     }
-    if rule > 6 {
-        return Row {
-            first: false,
-            second: false,
-            place: false,
-        };
-    }
-    let i = (rule - 1) as usize;
-    ROWS[i]
 }
 
+// A field is used, or zero.
 fn used_or_zero(used: bool, x: u16) -> bool
     ensures { result ≡ used_or_zero used x }
 {
-    if used { true } else { x == 0 }
+    used || x == 0
 }
 
-// The fields that the line's rule doesn't use are zero, by the table.
-pub fn tidy(l: Fields) -> bool
-    ensures { result ≡ tidyLine (line_of l) }
+// The fields that the line's rule doesn't use are zero, by the table, and so are its reserved bytes.
+#[tactic(auto, using(crate::proofs::RowLaws::by_row))]
+pub fn tidy(l: &Line) -> bool
+    ensures { result ≡ tidyLine (line_seen l.now) }
 {
-    let row = row_of(l.rule);
-    if !used_or_zero(row.first, l.first) {
-        return false;
-    }
-    if !used_or_zero(row.second, l.second) {
-        return false;
-    }
-    used_or_zero(row.place, l.place as u16)
+    let row = row_of(l.fields.rule);
+    used_or_zero(row.first, l.fields.first)
+        & used_or_zero(row.second, l.fields.second)
+        & used_or_zero(row.place, u16::from(l.fields.place))
+        & (l.reserved == 0)
 }

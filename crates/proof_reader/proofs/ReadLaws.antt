@@ -1,102 +1,60 @@
--- A step is what the line decoder finds; what a step tells of its place; and a reader reads whole lines alone.
-use mathlib.Core.Path.{◌≡◌, refl, sym, ap, ◌∙◌}
-use mathlib.Core.Bool.{Bool, true, false, cond}
-use mathlib.Core.List.{List, ◌++◌}
+-- What is left at a reader's place; and a reader reads whole lines alone.
+use mathlib.Core.Path.{◌≡◌, refl, ap, ◌∙◌}
+use mathlib.Core.Bool.{Bool, true, false}
+use mathlib.Core.List.{List, [], ◌∷◌, ◌++◌, map}
 use mathlib.Core.Option.{some}
 use Prim.Native.Nat.{ℕ, ◌+◌, ◌*◌, ◌/◌, ◌%◌, ◌≤◌, ◌<◌}
 use native.Mathlib.Omega.{arith}
-use lib.ListN.{length, get_or, get_elem?, length-append, get_or-append}
-use lib.Dec.{eqb, ltb}
-use borrow.Author.Tests.{eqb-true, lt-ltb, ltb-true, ltb-false}
+use lib.ListN.{length, get_or, get_elem?, drop, length-append, get_or-append, drop_of_length-le}
+use lib.Dec.{ltb}
+use borrow.Author.Tests.{lt-ltb, ltb-true, ltb-false}
+use Rattle.std.specs.Prelude.{Option, Some, None}
+use Rattle.std.proofs.lemmas.List.{drop_more, length-map}
 use Rattle.graph.specs.Lines.{Line}
-use Rattle.base.proofs.AbsurdLaws.{zero_is_one}
 use Rattle.base.proofs.ListLaws.{found_lt}
 use Rattle.proof_lines.specs.Codec.{line_at, lines_of}
-use Rattle.proof_lines.proofs.Decoding.{lines_length, lines_found}
-use Rattle.proof_lines.specs.Reading.{fields_of as fields, decoded}
-use Rattle.proof_lines.specs.declared.Fields.{Fields}
-use Rattle.proof_lines.specs.declared.Decoded.{Decoded}
-use Rattle.proof_lines.specs.declared.Decoded.TheVariants as line
-use Rattle.proof_reader.specs.Read.{next_line_of, step_over, step_at}
+use Rattle.proof_lines.proofs.Decoding.{lines_length, lines_at, lines_found}
+use Rattle.proof_lines.specs.Reading.{read_of}
+use Rattle.proof_lines.specs.declared.Line.{Line as LineRead}
+use Rattle.std.specs.Iterator.{YieldsFirst, MakesProgress, item_count}
+use Rattle.proof_reader.specs.declared.LineReader.{LineReader}
+use Rattle.proof_reader.specs.Read.{step_over, step_at, moved_to, lines_left}
 use Rattle.proof_reader.specs.Whole.{Whole}
-use Rattle.proof_reader.specs.declared.NextLine.TheVariants as next
-use Rattle.proof_reader.specs.declared.Found.{Found}
 
--- the step to a line with these fields, and the reserved bytes' number
-abbrev pub step_to : Fields → ℕ → ℕ → Found
-step_to f reserved k = record { line = next.Fields f.rule f.place f.first f.second reserved; at = k + 1 }
+-- ---- what is left
 
--- the decoder's answer, by whether line l stands there whole and whether its reserved bytes are zero
-abbrev answer : Line → Bool → Bool → Decoded
-answer l b t = cond b (cond t (line.Whole (fields l)) (line.Reserved (fields l) l.reserved)) line.End
+pub left_more : (bs : List ℕ) (k : ℕ) → k < length bs / 8 → map read_of (drop k (lines_of bs)) ≡ read_of (line_at bs k) ∷ map read_of (drop (k + 1) (lines_of bs))
+left_more bs k h =
+    ap (map read_of) (drop_more (lines_of bs) k (line_at bs k) (rw (lines_length bs) h))
+    ∙ ap (λ (l : Line). read_of l ∷ map read_of (drop (k + 1) (lines_of bs))) (lines_at bs k (line_at bs k) h)
 
--- no line stands at k past the whole ones
-inside : (l : Line) (b t : Bool) {d : Decoded} → answer l b t ≡ d → (d ≡ line.End → ⊥) → b ≡ true
-inside l true t e n = refl
-inside l false t e n = absurd (n (cc))
+pub left_none : (bs : List ℕ) (k : ℕ) → length bs / 8 ≤ k → ◌≡◌ {A = List LineRead} (map read_of (drop k (lines_of bs))) []
+left_none bs k h = ap (map read_of) (drop_of_length-le (lines_of bs) (rw (lines_length bs) h))
 
-module _ (bs : List ℕ) (k : ℕ) where
-  abbrev l : Line
-  l = line_at bs k
+pub left_all : (bs : List ℕ) → length (map read_of (drop 0 (lines_of bs))) ≡ length bs / 8
+left_all bs = rw length-map (lines_length bs)
 
-  module _ (f : Fields) (e : decoded bs k ≡ line.Whole f) where
-    pub whole_inside : k < length bs / 8
-    whole_inside = ltb-true _ _ (inside l (ltb k (length bs / 8)) (eqb l.reserved 0) e (λ z. let q : ◌≡◌ {A = ℕ} 0 1 = cc in omega arith))
+-- a step gives the first line that is left
+pub step_left : (r t : LineReader) (o : Option LineRead) → o ≡ (step_at r.lines.now r.at).0 → t ≡ moved_to r (step_at r.lines.now r.at).1 → YieldsFirst lines_left r o t
+step_left r t o p q = rw (p, q) (go (ltb r.at (length r.lines.now / 8)) refl)
+  where
+    go : (b : Bool) → ltb r.at (length r.lines.now / 8) ≡ b
+        → YieldsFirst lines_left r (step_over b (read_of (line_at r.lines.now r.at)) r.at).0 (moved_to r (step_over b (read_of (line_at r.lines.now r.at)) r.at).1)
+    go true e = left_more r.lines.now r.at (ltb-true _ _ e)
+    go false e = let n = left_none r.lines.now r.at (ltb-false _ _ e) in (n, n)
 
-    pub step_whole : step_to f 0 k ≡ step_at bs k
-    step_whole = go (ltb k (length bs / 8)) (eqb l.reserved 0) refl e
-      where
-        go : (b t : Bool) → eqb l.reserved 0 ≡ t → answer l b t ≡ line.Whole f
-            → step_to f 0 k ≡ step_over b l k
-        go true true q e = let g : f ≡ fields l = cc in let z : l.reserved ≡ 0 = eqb-true _ _ q in rw (g, z)
-        go true false q e = zero_is_one cc
-        go false t q e = zero_is_one cc
-
-  module _ (f : Fields) (x : ℕ) (e : decoded bs k ≡ line.Reserved f x) where
-    pub reserved_inside : k < length bs / 8
-    reserved_inside = ltb-true _ _ (inside l (ltb k (length bs / 8)) (eqb l.reserved 0) e (λ z. let q : ◌≡◌ {A = ℕ} 0 1 = cc in omega arith))
-
-    pub step_reserved : step_to f x k ≡ step_at bs k
-    step_reserved = go (ltb k (length bs / 8)) (eqb l.reserved 0) e
-      where
-        go : (b t : Bool) → answer l b t ≡ line.Reserved f x
-            → step_to f x k ≡ step_over b l k
-        go true true e = zero_is_one cc
-        go true false e = let g : f ≡ fields l = cc in let z : x ≡ l.reserved = cc in rw (g, z)
-        go false t e = zero_is_one cc
-
-  pub step_end : decoded bs k ≡ line.End → record { line = next.End; at = k } ≡ step_at bs k
-  step_end e = go (ltb k (length bs / 8)) (eqb l.reserved 0) e
-    where
-      go : (b t : Bool) → answer l b t ≡ line.End
-          → record { line = next.End; at = k } ≡ step_over b l k
-      go true true e = zero_is_one cc
-      go true false e = zero_is_one cc
-      go false t e = refl
-
--- what a step tells of the place
-module _ (bs : List ℕ) (k : ℕ) (f : Found) (e : f ≡ step_at bs k) where
-  pub fields_inside : {r p x y z : ℕ} → f.line ≡ next.Fields r p x y z → (k < length bs / 8) × (f.at ≡ k + 1)
-  fields_inside {r} {p} {x} {y} {z} q = go (ltb k (length bs / 8)) refl e
-    where
-      go : (b : Bool) → ltb k (length bs / 8) ≡ b → f ≡ step_over b (line_at bs k) k → (k < length bs / 8) × (f.at ≡ k + 1)
-      go true t e = (ltb-true _ _ t, ap (λ (g : Found). g.at) e)
-      go false t e = let m : next.End ≡ next.Fields r p x y z = ap (λ (g : Found). g.line) (sym e) ∙ q in zero_is_one cc
-
-  pub end_outside : f.line ≡ next.End → length bs / 8 ≤ k
-  end_outside q = go (ltb k (length bs / 8)) refl e
-    where
-      go : (b : Bool) → ltb k (length bs / 8) ≡ b → f ≡ step_over b (line_at bs k) k → length bs / 8 ≤ k
-      go true t e = let m : next_line_of (line_at bs k) ≡ next.End = ap (λ (g : Found). g.line) (sym e) ∙ q in zero_is_one cc
-      go false t e = ltb-false _ _ t
+-- and so each line brings the end nearer
+pub goes_left : (r t : LineReader) (o : Option LineRead) → YieldsFirst lines_left r o t → MakesProgress (λ (s : LineReader). Unit {0}) (item_count lines_left) r o t
+goes_left r t None h = record { on = λ f. tt; keeps = tt; rests = λ f. tt }
+goes_left r t (Some x) h = record { on = λ f. (tt, tt, omega (arith, ap length h)); keeps = tt; rests = λ f. tt }
 
 -- ---- whole lines, and no byte past them
 
-lines_step : (bs : List ℕ) (k : ℕ) (m : Line) → get_elem? (lines_of bs) k ≡ some m → step_at bs k ≡ record { line = next_line_of m; at = k + 1 }
+lines_step : (bs : List ℕ) (k : ℕ) (m : Line) → get_elem? (lines_of bs) k ≡ some m → ◌≡◌ {A = Option LineRead × ℕ} (step_at bs k) (Some (read_of m), k + 1)
 lines_step bs k m e =
     let h : k < length bs / 8 = rw (lines_length bs) at (found_lt (lines_of bs) k m e) in
     let q : line_at bs k ≡ m = cc (lines_found bs k h) in
-    rw (lt-ltb _ _ h) (ap (λ (x : Line). step_over true x k) q)
+    rw (lt-ltb _ _ h) (ap (λ (x : Line). step_over true (read_of x) k) q)
 
 module _ (bs rest : List ℕ) (w : length bs % 8 ≡ 0) (h : length rest < 8) (k : ℕ) where
   line_kept : k < length bs / 8 → line_at (bs ++ rest) k ≡ line_at bs k
@@ -104,14 +62,14 @@ module _ (bs rest : List ℕ) (w : length bs % 8 ≡ 0) (h : length rest < 8) (k
       let at : (j : ℕ) → j < length bs → get_or (bs ++ rest) j 0 ≡ get_or bs j 0 = λ j q. get_or-append bs rest 0 j q in
       rw (at (8 * k) (omega arith), at (8 * k + 1) (omega arith), at (8 * k + 2) (omega arith), at (8 * k + 2 + 1) (omega arith), at (8 * k + 4) (omega arith), at (8 * k + 4 + 1) (omega arith), at (8 * k + 6) (omega arith), at (8 * k + 6 + 1) (omega arith))
 
-  trailing_step : step_at (bs ++ rest) k ≡ step_at bs k
+  trailing_step : ◌≡◌ {A = Option LineRead × ℕ} (step_at (bs ++ rest) k) (step_at bs k)
   trailing_step =
       let a : length (bs ++ rest) ≡ length bs + length rest = length-append bs rest in
       let n : length (bs ++ rest) / 8 ≡ length bs / 8 = omega arith in
       rw n (go (ltb k (length bs / 8)) refl)
     where
-      go : (b : Bool) → ltb k (length bs / 8) ≡ b → step_over b (line_at (bs ++ rest) k) k ≡ step_over b (line_at bs k) k
-      go true e = ap (λ (m : Line). step_over true m k) (line_kept (ltb-true _ _ e))
+      go : (b : Bool) → ltb k (length bs / 8) ≡ b → ◌≡◌ {A = Option LineRead × ℕ} (step_over b (read_of (line_at (bs ++ rest) k)) k) (step_over b (read_of (line_at bs k)) k)
+      go true e = ap (λ (m : Line). step_over true (read_of m) k) (line_kept (ltb-true _ _ e))
       go false e = refl
 
 pub whole : Whole

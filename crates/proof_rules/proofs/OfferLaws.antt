@@ -8,15 +8,10 @@ use lib.Dec.{ltb}
 use borrow.Author.Tests.{lt-ltb, ltb-true}
 use Rattle.base.proofs.BoolLaws.{and_left, and_right}
 use Rattle.graph.specs.State.{Equation}
-use Rattle.proof_rules.specs.Rules.{offer_of, both_below, offer_below}
-use Rattle.proof_rules.specs.declared.OfferAsked.{OfferAsked}
-use Rattle.proof_rules.specs.declared.OfferAsked.TheVariants as offer
+use Rattle.proof_rules.specs.Rules.{both_below, offer_below}
 
 both_ends : (n u v : ℕ) → both_below n u v ≡ true → (u < n) × (v < n)
 both_ends n u v h = (ltb-true u n (and_left (ltb u n) (ltb v n) h), ltb-true v n (and_right (ltb u n) (ltb v n) h))
-
-pub offer_ends : (n u v : ℕ) (o : OfferAsked) (k : ℕ) → o ≡ offer.Equation k u v → offer_below n (offer_of o) ≡ true → (u < n) × (v < n)
-offer_ends n u v o k e h = both_ends n u v (rw e at h)
 
 -- what is known among n nodes is known among more
 pub offer_within : (n m : ℕ) → n ≤ m → (o : Option Equation) → offer_below n o ≡ true → offer_below m o ≡ true

@@ -1,207 +1,190 @@
-// The rules that read nodes and equations, over lent arrays.
+// The rules that read nodes and equations.
 #![tactic(auto)]
 
-ghost use Rattle.std.specs.Prelude.{true, [], ◌≡◌, ℕ, ◌+◌, ◌*◌, ◌≤◌, ◌<◌, ltb, get_or};
+ghost use Rattle.std.specs.Prelude.{true, [], ◌≡◌, ◌≤◌, ltb};
 ghost use Rattle.std.proofs.Math.Option.{some};
-ghost use Rattle.base.specs.Tab.{tab};
-ghost use Rattle.graph.specs.Limits.{node_limit, child_limit, equation_limit};
+ghost use Rattle.graph.specs.Limits.{node_limit, equation_limit};
 ghost use Rattle.graph.specs.State.{extended};
-ghost use Rattle.graph.specs.Lines.{same, need, functor_at, place_at, by_equation, by_child, down_of};
-ghost use Rattle.store.specs.Views.{terms, equations, nodes_of, equations_of};
-ghost use Rattle.proof_rules.specs.Rules.{offer_of, offer_below, claimed, placed, labels_compared};
-ghost use Rattle.store.specs.declared.Terms.{Terms};
+ghost use Rattle.graph.specs.Lines.{same, below, need, functor_at, place_at, by_equation, by_child, down_of};
+ghost use Rattle.store.specs.Views.{nodes_of, equations_of};
+ghost use Rattle.proof_rules.specs.Rules.{offer_of, offer_below, claim_seen, claimed, found, functor_seen, labels_compared, symbol_in, WithinLimits};
 
-// The child at a place, or that there is none.
+use store::{Equations, Terms};
+
+// A functor node, as the rules look at it.
 #[derive(Clone, Copy)]
-pub enum Place {
-    At(u8),
-    Nowhere,
+struct Functor<'a> {
+    symbol: u16,
+    children: &'a [u8],
 }
 
 // How the labels of two nodes compare: both have one, or one is missing.
-#[derive(Clone, Copy)]
+#[derive(Clone, Copy, PartialEq, Eq, Debug)]
 pub enum Labels {
     Equal,
     Differ,
     Missing,
 }
 
-// What a line claims, by its kind, start and end, or that it breaks its rule.
-#[derive(Clone, Copy)]
-pub enum Claimed {
-    Claims(u8, u8, u8),
-    Breaks,
+// An equation offered beside the held ones.
+#[derive(Clone, Copy, PartialEq, Eq, Debug)]
+pub struct Offer {
+    pub name: u16,
+    pub left: u16,
+    pub right: u16,
 }
 
-// The kinds of a claim.
-pub const SAME: u8 = 0;
-
-pub const BELOW: u8 = 1;
-
-// Perhaps one equation offered beside the held ones: its name, its left and its right end.
-#[derive(Clone, Copy)]
-pub enum OfferAsked {
-    Nothing,
-    Equation(u16, u16, u16),
+// What a claim says of its two nodes: they are the same, or the end lies below the start.
+#[derive(Clone, Copy, PartialEq, Eq, Debug)]
+pub enum ClaimKind {
+    Same,
+    Below,
 }
 
-// The child of node `u` at place `p`, counted from 1, of `n`.
-fn place_at(child: &[u8; 256], u: usize, n: u8, p: u8) -> Place
-    requires { (u < node_limit) × (n ≤ child_limit) }
-    ensures { placed result ≡ place_at (tab n (λ j. get_or child.now (4 * u + j) 0)) p }
-{
-    let s: &[u8] = child;
-    if p == 0 {
-        return Place::Nowhere;
-    }
-    if p > n {
-        return Place::Nowhere;
-    }
-    let i = 4 * u + (p as usize - 1);
-    Place::At(s[i])
+// What a line claims of two nodes, its start and its end.
+#[derive(Clone, Copy, PartialEq, Eq, Debug)]
+pub struct Claim {
+    pub kind: ClaimKind,
+    pub start: u8,
+    pub end: u8,
 }
 
-// The labels of nodes `u` and `v` of `n`.
-pub fn compare_labels<'a>(
-    kind: &'a [u8; 64],
-    symbol: &'a [u16; 64],
-    arity: &'a [u8; 64],
-    child: &'a [u8; 256],
-    n: usize,
-    u: u8,
-    v: u8,
-) -> Labels
-    ghost g: { Terms }
-    requires child_value { terms n kind.now symbol.now arity.now child.now ≡ g }
-    requires n_le_node_limit { n ≤ node_limit }
-    ensures { result ≡ labels_compared (functor_at (nodes_of g) u) (functor_at (nodes_of g) v) }
-{
-    let a = u as usize;
-    let b = v as usize;
-    let kinds: &[u8] = kind;
-    let symbols: &[u16] = symbol;
-    if a >= n {
-        return Labels::Missing;
+impl Claim {
+    pub fn same(start: u8, end: u8) -> Claim
+        ensures { claim_seen result ≡ same start end }
+    {
+        Claim {
+            kind: ClaimKind::Same,
+            start,
+            end,
+        }
     }
-    if kinds[a] != 1 {
-        return Labels::Missing;
-    }
-    if b >= n {
-        return Labels::Missing;
-    }
-    if kinds[b] != 1 {
-        return Labels::Missing;
-    }
-    if symbols[a] != symbols[b] {
-        return Labels::Differ;
-    }
-    Labels::Equal
-}
 
-// Rule 1 on the offered equation.
-fn by_offer(o: OfferAsked, x: u16) -> Claimed
-    requires { offer_below node_limit (offer_of o) ≡ true }
-    ensures { claimed result ≡ by_equation (extended [] (offer_of o)) x }
-{
-    match o {
-        OfferAsked::Nothing => Claimed::Breaks,
-        OfferAsked::Equation(name, left, right) => {
-            if name == x {
-                Claimed::Claims(SAME, left as u8, right as u8)
-            } else {
-                Claimed::Breaks
-            }
+    pub fn below(start: u8, end: u8) -> Claim
+        ensures { claim_seen result ≡ below start end }
+    {
+        Claim {
+            kind: ClaimKind::Below,
+            start,
+            end,
         }
     }
 }
 
-// Rule 1.
-pub fn by_equation<'a>(
-    name: &'a [u16; 256],
-    left: &'a [u8; 256],
-    right: &'a [u8; 256],
-    m: usize,
-    o: OfferAsked,
-    x: u16,
-) -> Claimed
-    requires { (m ≤ equation_limit) × (offer_below node_limit (offer_of o) ≡ true) }
-    ensures { claimed result ≡ by_equation (extended (equations_of (equations m name.now left.now right.now)) (offer_of o)) x }
+// The child at place `p`, counted from 1.
+#[tactic(auto, using(crate::proofs::LookupLaws::place_found))]
+fn place_at(children: &[u8], p: u8) -> Option<u8>
+    ensures { found result ≡ place_at children.now p }
 {
-    let k = store::find(name, m, x);
-    if k < m {
-        let lefts: &[u8] = left;
-        let rights: &[u8] = right;
-        Claimed::Claims(SAME, lefts[k], rights[k])
+    let i = usize::from(p).checked_sub(1)?;
+    children.get(i).copied()
+}
+
+// The symbol of node `u`, if it is a functor node.
+#[tactic(auto, using(crate::proofs::NodeLaws::functor_past, crate::proofs::NodeLaws::functor_not, crate::proofs::NodeLaws::functor_is))]
+fn symbol_at(t: &Terms, u: usize) -> Option<u16>
+    requires { t.now.count ≤ node_limit }
+    ensures { result ≡ symbol_in (functor_at (nodes_of t.now) u) }
+{
+    if u < t.count && t.is_functor(u) {
+        Some(t.symbol[u])
     } else {
-        by_offer(o, x)
+        None
+    }
+}
+
+// Node `u`, if it is a functor node.
+#[tactic(auto, using(crate::proofs::NodeLaws::functor_past, crate::proofs::NodeLaws::functor_not, crate::proofs::NodeLaws::functor_is))]
+fn functor_at(t: &Terms, u: usize) -> Option<Functor<'_>>
+    requires { WithinLimits t.now }
+    ensures { functor_seen result ≡ functor_at (nodes_of t.now) u }
+{
+    if u < t.count && t.is_functor(u) {
+        Some(Functor {
+            symbol: t.symbol[u],
+            children: t.children(u),
+        })
+    } else {
+        None
+    }
+}
+
+// The labels of nodes `u` and `v`.
+pub fn compare_labels(t: &Terms, u: u8, v: u8) -> Labels
+    requires { t.now.count ≤ node_limit }
+    ensures { result ≡ labels_compared (functor_at (nodes_of t.now) u) (functor_at (nodes_of t.now) v) }
+{
+    let Some(f) = symbol_at(t, usize::from(u)) else {
+        return Labels::Missing;
+    };
+    let Some(g) = symbol_at(t, usize::from(v)) else {
+        return Labels::Missing;
+    };
+    if f == g {
+        Labels::Equal
+    } else {
+        Labels::Differ
+    }
+}
+
+// Rule 1 on the offered equation.
+fn by_offer(o: Option<Offer>, x: u16) -> Option<Claim>
+    requires { offer_below node_limit (offer_of o) ≡ true }
+    ensures { claimed result ≡ by_equation (extended [] (offer_of o)) x }
+{
+    let e = o?;
+    if e.name == x {
+        Some(Claim::same(e.left as u8, e.right as u8))
+    } else {
+        None
+    }
+}
+
+// Rule 1.
+pub fn by_equation(e: &Equations, o: Option<Offer>, x: u16) -> Option<Claim>
+    requires { (e.now.count ≤ equation_limit) × (offer_below node_limit (offer_of o) ≡ true) }
+    ensures { claimed result ≡ by_equation (extended (equations_of e.now) (offer_of o)) x }
+{
+    match e.find(x) {
+        Some(k) => Some(Claim::same(e.left[k], e.right[k])),
+        None => by_offer(o, x),
     }
 }
 
 // Rule 2.
-pub fn by_child<'a>(
-    kind: &'a [u8; 64],
-    symbol: &'a [u16; 64],
-    arity: &'a [u8; 64],
-    child: &'a [u8; 256],
-    n: usize,
-    u: u16,
-    p: u8,
-) -> Claimed
-    requires { (n ≤ node_limit) × ((x : ℕ) → x < n → get_or arity.now x 0 ≤ child_limit) }
-    ensures { claimed result ≡ by_child (nodes_of (terms n kind.now symbol.now arity.now child.now)) u p }
+#[tactic(auto, using(crate::proofs::NodeLaws::functor_known))]
+pub fn by_child(t: &Terms, u: u16, p: u8) -> Option<Claim>
+    requires { WithinLimits t.now }
+    ensures { claimed result ≡ by_child (nodes_of t.now) u p }
 {
-    let x = u as usize;
-    if x >= n {
-        return Claimed::Breaks;
-    }
-    let kinds: &[u8] = kind;
-    let arities: &[u8] = arity;
-    if kinds[x] != 1 {
-        return Claimed::Breaks;
-    }
-    let Place::At(v) = place_at(child, x, arities[x], p) else {
-        return Claimed::Breaks;
-    };
-    Claimed::Claims(BELOW, x as u8, v)
+    let k = functor_at(t, usize::from(u))?;
+    let v = place_at(k.children, p)?;
+    Some(Claim::below(u as u8, v))
 }
 
 // Rule 3, of `n` nodes.
-pub fn by_reflexivity(n: usize, u: u16) -> Claimed
+pub fn by_reflexivity(n: usize, u: u16) -> Option<Claim>
     requires { n ≤ node_limit }
     ensures { claimed result ≡ need (ltb u n) (some (same u u)) }
 {
-    if (u as usize) < n {
-        Claimed::Claims(SAME, u as u8, u as u8)
+    if usize::from(u) < n {
+        Some(Claim::same(u as u8, u as u8))
     } else {
-        Claimed::Breaks
+        None
     }
 }
 
 // Rule 6 from a claim that `u` and `v` are the same.
-pub fn down<'a>(
-    kind: &'a [u8; 64],
-    symbol: &'a [u16; 64],
-    arity: &'a [u8; 64],
-    child: &'a [u8; 256],
-    n: usize,
-    p: u8,
-    u: u8,
-    v: u8,
-) -> Claimed
-    requires { (n ≤ node_limit) × ((x : ℕ) → x < n → get_or arity.now x 0 ≤ child_limit) }
-    ensures { claimed result ≡ down_of (nodes_of (terms n kind.now symbol.now arity.now child.now)) p (same u v) }
+pub fn down(t: &Terms, p: u8, u: u8, v: u8) -> Option<Claim>
+    requires { WithinLimits t.now }
+    ensures { claimed result ≡ down_of (nodes_of t.now) p (same u v) }
 {
-    let Labels::Equal = compare_labels(kind, symbol, arity, child, n, u, v) else {
-        return Claimed::Breaks;
-    };
-    let a = u as usize;
-    let b = v as usize;
-    let arities: &[u8] = arity;
-    let Place::At(x) = place_at(child, a, arities[a], p) else {
-        return Claimed::Breaks;
-    };
-    let Place::At(y) = place_at(child, b, arities[b], p) else {
-        return Claimed::Breaks;
-    };
-    Claimed::Claims(SAME, x, y)
+    let k = functor_at(t, usize::from(u))?;
+    let m = functor_at(t, usize::from(v))?;
+    if k.symbol != m.symbol {
+        return None;
+    }
+    let x = place_at(k.children, p)?;
+    let y = place_at(m.children, p)?;
+    Some(Claim::same(x, y))
 }

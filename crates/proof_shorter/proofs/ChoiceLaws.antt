@@ -1,9 +1,9 @@
 -- Laws of the choice: what the checks' replies make of it, and that what is handed back passes.
-use mathlib.Core.Path.{◌≡◌, refl, sym, ap, ◌∙◌}
+use mathlib.Core.Path.{◌≡◌, refl, sym, ap, ◌∙◌, subst}
 use mathlib.Core.Bool.{Bool, true, false, ◌&&◌, cond}
 use mathlib.Core.List.{List, []}
 use mathlib.Core.Option.{Option}
-use mathlib.Core.Logic.{inl, inr}
+use mathlib.Core.Logic.{inl, inr, ⊎_elim}
 use Prim.Native.Nat.{ℕ, ◌≤◌, ◌<◌}
 use native.Mathlib.Omega.{arith}
 use lib.ListN.{length}
@@ -11,19 +11,25 @@ use lib.Dec.{ltb}
 use borrow.Author.Tests.{lt-ltb, le-ltb, ltb-true, ltb-false}
 use Rattle.graph.specs.State.{State, Equation}
 use Rattle.graph.specs.Goals.{Goal, Judgement, passed, refused, broken_line}
-use Rattle.proof_check.specs.Answers.{answer_to}
+use Rattle.proof_check.specs.Answers.{judged_as, answer_to}
 use Rattle.unifier.specs.Views.{state_of, Valid}
-use Rattle.unifier.specs.Replies.{judged}
+use Rattle.std.specs.Prelude.{Result, Ok, Err, Some, None}
+use Rattle.std.specs.declared.option.Option.{Option as Optional}
+use Rattle.refusals.specs.Numbers.{refusal_number, Brought, nothing, proof, place, brings, numbered}
+use Rattle.refusals.specs.declared.Refusal.{Refusal}
+use Rattle.refusals.specs.declared.Refusal.TheVariants.{BrokenLine}
+use Rattle.refusals.proofs.NumberLaws.{proof_number, place_is, numbered_back}
+use Rattle.unifier.proofs.CheckLaws.{judgement, refused_by, Listed, check_listed}
 use Rattle.proof_rules.specs.Rules.{offer_below}
 use Rattle.unifier.specs.Check.{check_reply, goal_below, offer_new, Checks}
 use Rattle.unifier.specs.declared.Workspace.{Workspace}
-use Rattle.unifier.specs.declared.Checked.{Checked}
-use Rattle.unifier.specs.declared.CheckReply.{CheckReply}
-use Rattle.unifier.specs.declared.CheckReply.TheVariants as check
-use Rattle.proof_shorter.specs.Choice.{Choice, first, second, refusal, refusal_in, choice, in_list, or_else, line_count, fewer_lines, shorter_reply, part_of, shorter_of}
-use Rattle.proof_shorter.specs.Promises.{ChoosesLater, Chooses, Hands}
+use Rattle.unifier.specs.declared.Outcome.{Outcome}
+use Rattle.proof_shorter.specs.Choice.{Choice, first, second, refusal, refusal_in, broken_in, list_number, which, refused_for, choice, in_list, or_else, line_count, fewer_lines, shorter_reply, part_of, shorter_of}
+use Rattle.proof_shorter.specs.Promises.{Passing, Chooses, Hands}
 use Rattle.proof_shorter.specs.Best.{Best, Picked, Shorter}
-use Rattle.proof_shorter.specs.declared.ShorterReply.{ShorterReply}
+use Rattle.proof_shorter.specs.declared.List.{List as Which}
+use Rattle.proof_shorter.specs.declared.List.TheVariants.{First, Second}
+use Rattle.proof_shorter.specs.declared.NoChoice.{NoChoice}
 use Rattle.base.proofs.AbsurdLaws.{zero_is_one}
 
 -- ---- the code's steps
@@ -34,34 +40,144 @@ fewer_second a b h = rw (lt-ltb _ _ h)
 pub fewer_first : (a b : List ℕ) → line_count a ≤ line_count b → first ≡ fewer_lines a b
 fewer_first a b h = rw (le-ltb _ _ h)
 
+-- a refusal of a list leaves nothing to what comes after it
+or_else_refused : (l : ℕ) (r : Refusal) (c d : Choice) → or_else l (judged_as (Err r)) c ≡ or_else l (judged_as (Err r)) d
+or_else_refused l r c d = rw (refused_by r) (go (brings r))
+  where
+    go : (b : Brought) → or_else l (judgement (refusal_number r) b) c ≡ or_else l (judgement (refusal_number r) b) d
+    go nothing = refl
+    go (proof n) = refl
+    go (place i) = refl
+
+module _ (w : Workspace) (o : Option Equation) (g : Goal) (l : ℕ) (bytes : List ℕ) (r : Outcome (Unit {0})) (C : Checks w o g bytes r) where
+  pub passed_list : r.reply ≡ Ok tt → Passing w o g l bytes (Ok tt)
+  passed_list e = record {
+    refuses = λ n c. let q : passed ≡ refused 1 = ap judged_as (sym e) ∙ C.refuses n in zero_is_one cc;
+    replies = λ v c. let q : passed ≡ check_reply (state_of w) o g bytes = ap judged_as (sym e) ∙ C.replies v in rw (← q);
+  }
+
+  pub refused_list : (k : Refusal) (n : NoChoice) → r.reply ≡ Err k → choice (Err n) ≡ or_else l (judged_as (Err k)) first → Passing w o g l bytes (Err n)
+  refused_list k n e h = record {
+    refuses = λ b c. h ∙ ap (λ (j : Judgement). or_else l j first) (ap judged_as (sym e) ∙ C.refuses b);
+    replies = λ v c. h ∙ or_else_refused l k first c ∙ ap (λ (j : Judgement). or_else l j c) (ap judged_as (sym e) ∙ C.replies v);
+  }
+
 module _ (w : Workspace) (o : Option Equation) (g : Goal) (a b : List ℕ) where
-  -- y is the check's reply to the second list
-  pub later : {r : Checked} (y : CheckReply) (x : ShorterReply) → Checks w o g b r → r.reply ≡ y → choice x ≡ or_else 2 (judged y) (fewer_lines a b) → ChoosesLater w o g a b x
-  later y x C e q = record { replies = λ v. q ∙ ap (λ (j : Judgement). or_else 2 j (fewer_lines a b)) (ap judged (sym e) ∙ C.replies v) }
-
-  -- y is the check's reply to the first, and refuses it
-  pub early : {r : Checked} (y : CheckReply) (x : ShorterReply) → Checks w o g a r → r.reply ≡ y → ((d : Choice) → choice x ≡ or_else 1 (judged y) d) → Chooses w o g a b x
+  pub first_refused : {x : Result (Unit {0}) NoChoice} {r : Result Which NoChoice} (n : NoChoice) → x ≡ Err n → Passing w o g 1 a x → r ≡ Err n → Chooses w o g a b r
   unfolding shorter_reply
-  early y x C e q =
+  first_refused n e P q = let p = rw e at P in rw q (record { refuses = λ z. p.refuses z first; replies = λ v. p.replies v _ })
+
+  pub second_refused : {x y : Result (Unit {0}) NoChoice} {r : Result Which NoChoice} (n : NoChoice) → x ≡ Ok tt → Passing w o g 1 a x → y ≡ Err n → Passing w o g 2 b y → r ≡ Err n
+      → Chooses w o g a b r
+  unfolding shorter_reply
+  second_refused n d P e Q q =
+      let p = rw d at P in
+      let k = rw e at Q in
+      rw q (record { refuses = λ z. k.refuses z first; replies = λ v. k.replies v (fewer_lines a b) ∙ p.replies v _ })
+
+  pub chosen : {x y : Result (Unit {0}) NoChoice} (r : Result Which NoChoice) → x ≡ Ok tt → Passing w o g 1 a x → y ≡ Ok tt → Passing w o g 2 b y → choice r ≡ fewer_lines a b
+      → Chooses w o g a b r
+  unfolding shorter_reply
+  chosen r d P h Q e =
+      let p = rw d at P in
+      let k = rw h at Q in
       record {
-        refuses = λ n. q first ∙ ap (λ (j : Judgement). or_else 1 j first) (ap judged (sym e) ∙ C.refuses n);
-        replies = λ v. q (or_else 2 (check_reply (state_of w) o g b) (fewer_lines a b)) ∙ ap (λ (j : Judgement). or_else 1 j (or_else 2 (check_reply (state_of w) o g b) (fewer_lines a b))) (ap judged (sym e) ∙ C.replies v);
+        refuses = λ z. let q : first ≡ refusal 1 = p.refuses z first in zero_is_one cc;
+        replies = λ v. e ∙ k.replies v (fewer_lines a b) ∙ p.replies v _;
       }
 
-  pub passes_first : {r : Checked} (x : ShorterReply) → Checks w o g a r → r.reply ≡ check.Passed → ChoosesLater w o g a b x → Chooses w o g a b x
-  unfolding shorter_reply
-  passes_first x C e L =
-      record {
-        refuses = λ n. let q : passed ≡ refused 1 = ap judged (sym e) ∙ C.refuses n in zero_is_one cc;
-        replies = λ v. let q : passed ≡ check_reply (state_of w) o g a = ap judged (sym e) ∙ C.replies v in rw (← q) (L.replies v);
-      }
-
-  pub part : {x : ShorterReply} (y : ShorterReply) (r : List ℕ) → Chooses w o g a b x → x ≡ y → r ≡ part_of (choice y) a b → Hands w o g a b r
+  pub part : {x : Result Which NoChoice} (y : Result Which NoChoice) (r : List ℕ) → Chooses w o g a b x → x ≡ y → r ≡ part_of (choice y) a b → Hands w o g a b r
   part y r C e q =
       record {
         refuses = λ n. q ∙ ap (λ (c : Choice). part_of c a b) (ap choice (sym e) ∙ C.refuses n);
         hands = λ v. q ∙ ap (λ (c : Choice). part_of c a b) (ap choice (sym e) ∙ C.replies v);
       }
+
+-- ---- one value for each choice
+
+-- the choice's number is that of a refusal which brings nothing, and its list is 1 or 2
+abbrev Listed_choice : Choice → Type 0
+Listed_choice first = Unit {0}
+Listed_choice second = Unit {0}
+Listed_choice (refusal k) = (refusal_number (numbered k) ≡ k) × (brings (numbered k) ≡ nothing)
+Listed_choice (refusal_in k l) = ((refusal_number (numbered k) ≡ k) × (brings (numbered k) ≡ nothing)) × (list_number (which l) ≡ l)
+Listed_choice (broken_in l i) = list_number (which l) ≡ l
+
+or_else_listed : (l : ℕ) (j : Judgement) (c : Choice) → list_number (which l) ≡ l → Listed j → Listed_choice c → Listed_choice (or_else l j c)
+or_else_listed l passed c x p q = q
+or_else_listed l (refused k) c x p q = go (ltb k 11)
+  where
+    go : (b : Bool) → Listed_choice (cond b (refusal k) (refusal_in k l))
+    go true = p
+    go false = (p, x)
+or_else_listed l (broken_line i) c x p q = x
+
+shorter_listed : (s : State) (o : Option Equation) (g : Goal) (a b : List ℕ) → Listed_choice (shorter_reply s o g a b)
+unfolding shorter_reply
+shorter_listed s o g a b =
+    or_else_listed 1 (check_reply s o g a) _ refl (check_listed s o g a)
+    (or_else_listed 2 (check_reply s o g b) _ refl (check_listed s o g b) (go (ltb (line_count b) (line_count a))))
+  where
+    go : (t : Bool) → Listed_choice (cond t second first)
+    go true = tt
+    go false = tt
+
+pub chosen_as : Choice → Result Which NoChoice
+chosen_as first = Ok First
+chosen_as second = Ok Second
+chosen_as (refusal k) = Err (record { refusal = numbered k; list = None })
+chosen_as (refusal_in k l) = Err (record { refusal = numbered k; list = Some (which l) })
+chosen_as (broken_in l i) = Err (record { refusal = BrokenLine i; list = Some (which l) })
+
+chosen_back : (c : Choice) → Listed_choice c → choice (chosen_as c) ≡ c
+unfolding chosen_as
+chosen_back first p = refl
+chosen_back second p = refl
+chosen_back (refusal k) p = rw p.0 refl
+chosen_back (refusal_in k l) p = rw (p.0.0, p.0.1, p.1) refl
+chosen_back (broken_in l i) p = rw p refl
+
+chosen_there : (r : Result Which NoChoice) → Listed_choice (choice r) → chosen_as (choice r) ≡ r
+unfolding chosen_as
+chosen_there (Ok First) p = refl
+chosen_there (Ok Second) p = refl
+chosen_there (Err n) p = go n.list (brings n.refusal) refl p
+  where
+    which_back : (l : Which) → which (list_number l) ≡ l
+    which_back First = refl
+    which_back Second = refl
+
+    eight : refusal_number (numbered 8) ≡ 8 → ⊥
+    eight h = omega (arith, h)
+
+    nine : refusal_number (numbered 9) ≡ 9 → ⊥
+    nine h = omega (arith, h)
+
+    twelve : refusal_number (numbered 12) ≡ 12 → ⊥
+    twelve h = omega (arith, h)
+
+    no_proof : (m : ℕ) → brings n.refusal ≡ proof m → refusal_number (numbered (refusal_number n.refusal)) ≡ refusal_number n.refusal → ⊥
+    no_proof m e h = ⊎_elim (λ q. eight (rw q at h)) (λ q. nine (rw q at h)) (proof_number n.refusal m e)
+
+    go : (l : Optional Which) (b : Brought) → brings n.refusal ≡ b → Listed_choice (refused_for l (refusal_number n.refusal) b)
+        → chosen_as (refused_for l (refusal_number n.refusal) b) ≡ Err (record { refusal = n.refusal; list = l })
+    go None nothing e p = rw (numbered_back n.refusal e) refl
+    go None (proof m) e p = absurd (no_proof m e p.0)
+    go None (place i) e p = absurd (twelve (rw (place_is n.refusal i e) at p.0))
+    go (Some l) nothing e p = rw (numbered_back n.refusal e, which_back l) refl
+    go (Some l) (proof m) e p = absurd (no_proof m e p.0.0)
+    go (Some l) (place i) e p = rw (place_is n.refusal i e, which_back l) refl
+
+module _ (s : State) (o : Option Equation) (g : Goal) (a b : List ℕ) where
+  pub choice_back : choice (chosen_as (shorter_reply s o g a b)) ≡ shorter_reply s o g a b
+  choice_back = chosen_back (shorter_reply s o g a b) (shorter_listed s o g a b)
+
+  pub choice_there : (r : Result Which NoChoice) → choice r ≡ shorter_reply s o g a b → chosen_as (shorter_reply s o g a b) ≡ r
+  choice_there r e = ap chosen_as (sym e) ∙ chosen_there r (subst Listed_choice (sym e) (shorter_listed s o g a b))
+
+-- of what is no workspace
+pub no_choice_there : (r : Result Which NoChoice) → choice r ≡ refusal 1 → chosen_as (refusal 1) ≡ r
+no_choice_there r e = ap chosen_as (sym e) ∙ chosen_there r (subst Listed_choice (sym e) (refl, refl))
 
 -- ---- what is handed back
 

@@ -1,82 +1,81 @@
-// The shorter of two proofs. A workspace is Copy, so the caller keeps its own; the calls here hand back a part or a refusal alone, since a
-// struct of a lent part beside a workspace would hold a reference.
+// The shorter of two proofs. A workspace is Copy, so the caller keeps its own; the calls here hand back a part or a refusal alone.
 #![tactic(auto)]
 
-ghost use Rattle.std.specs.Prelude.{◌≡◌};
+ghost use Rattle.std.specs.Prelude.{◌≡◌, Err};
 ghost use Rattle.proof_rules.specs.Rules.{offer_of};
-ghost use Rattle.proof_check.specs.Answers.{goal_of};
-ghost use Rattle.proof_shorter.specs.Choice.{in_list, choice};
-ghost use Rattle.proof_shorter.specs.Promises.{ChoosesLater, Chooses, Hands};
+ghost use Rattle.proof_check.specs.Answers.{judged_as, goal_of};
+ghost use Rattle.proof_shorter.specs.Choice.{first, list_number, or_else, choice};
+ghost use Rattle.proof_shorter.specs.Promises.{Passing, Chooses, Hands};
 
-use unifier::{CheckReply, GoalAsked, OfferAsked, Workspace};
+use unifier::{GoalAsked, Offer, Refusal, Workspace};
 
-// Which of two lists, or a refusal's number: 11 and 13 with the list, 1 or 2; 12 with the list and the line.
-#[derive(Clone, Copy)]
-pub enum ShorterReply {
+// Which of two lists.
+#[derive(Clone, Copy, PartialEq, Eq, Debug)]
+pub enum List {
     First,
     Second,
-    Refused(u8),
-    RefusedIn(u8, u8),
-    BrokenIn(u8, u16),
 }
 
-fn refused_in(number: u8, list: u8) -> ShorterReply
-    ensures { choice result ≡ in_list number list }
+// Why there is no choice: a refusal, and of which list it is. Refusals below 11 are none of a list's.
+#[derive(Clone, Copy, PartialEq, Eq, Debug)]
+pub struct NoChoice {
+    pub refusal: Refusal,
+    pub list: Option<List>,
+}
+
+fn refused_in(list: List, refusal: Refusal) -> NoChoice
+    ensures { choice (Err result) ≡ or_else (list_number list) (judged_as (Err refusal)) first }
 {
-    if number < 11 {
-        return ShorterReply::Refused(number);
+    if refusal.number() < 11 {
+        return NoChoice {
+            refusal,
+            list: None,
+        };
     }
-    ShorterReply::RefusedIn(number, list)
+    NoChoice {
+        refusal,
+        list: Some(list),
+    }
 }
 
-// Once the first list has passed.
-fn second_reply(
+// Whether a list passes.
+fn passes(
     w: Workspace,
-    offer: OfferAsked,
-    first: &[u8],
-    second: &[u8],
+    offer: Option<Offer>,
+    list: List,
+    lines: &[u8],
     goal: GoalAsked,
-) -> ShorterReply
-    ensures { ChoosesLater w (offer_of offer) (goal_of goal) first.now second.now result }
+) -> Result<(), NoChoice>
+    ensures { Passing w (offer_of offer) (goal_of goal) (list_number list) lines.now result }
 {
-    let c = w.check(offer, second, goal);
-    let reply = c.reply;
-    match reply {
-        CheckReply::Passed => {
-            if second.len() / 8 < first.len() / 8 {
-                ShorterReply::Second
-            } else {
-                ShorterReply::First
-            }
-        }
-        CheckReply::Refused(k) => refused_in(k, 2),
-        CheckReply::Broken(i) => ShorterReply::BrokenIn(2, i),
+    match w.check(offer, lines, goal).reply {
+        Ok(()) => Ok(()),
+        Err(refusal) => Err(refused_in(list, refusal)),
     }
 }
 
-// The choice between two lists, each checked for the goal, the first list first: the call beside `proof_shorter`.
+// The choice between two lists, each checked for the goal, the first list first: the call beside `shorter`.
 pub fn shorter_reply(
     w: Workspace,
-    offer: OfferAsked,
+    offer: Option<Offer>,
     first: &[u8],
     second: &[u8],
     goal: GoalAsked,
-) -> ShorterReply
+) -> Result<List, NoChoice>
     ensures { Chooses w (offer_of offer) (goal_of goal) first.now second.now result }
 {
-    let c = w.check(offer, first, goal);
-    let reply = c.reply;
-    match reply {
-        CheckReply::Passed => second_reply(w, offer, first, second, goal),
-        CheckReply::Refused(k) => refused_in(k, 1),
-        CheckReply::Broken(i) => ShorterReply::BrokenIn(1, i),
+    passes(w, offer, List::First, first, goal)?;
+    passes(w, offer, List::Second, second, goal)?;
+    if second.len() / 8 < first.len() / 8 {
+        return Ok(List::Second);
     }
+    Ok(List::First)
 }
 
 // The list with fewer lines, the first on a tie; an empty part where one doesn't pass.
 pub fn shorter<'a>(
     w: Workspace,
-    offer: OfferAsked,
+    offer: Option<Offer>,
     first: &'a [u8],
     second: &'a [u8],
     goal: GoalAsked,
@@ -84,10 +83,8 @@ pub fn shorter<'a>(
     ensures { Hands w (offer_of offer) (goal_of goal) first.now second.now result.now }
 {
     match shorter_reply(w, offer, first, second, goal) {
-        ShorterReply::First => first,
-        ShorterReply::Second => second,
-        ShorterReply::Refused(_) => &first[0..0],
-        ShorterReply::RefusedIn(_, _) => &first[0..0],
-        ShorterReply::BrokenIn(_, _) => &first[0..0],
+        Ok(List::First) => first,
+        Ok(List::Second) => second,
+        Err(_) => &first[0..0],
     }
 }

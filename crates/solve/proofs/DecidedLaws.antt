@@ -1,46 +1,36 @@
 -- A settled closure, decided: a clash, a solution where the peel leaves nothing, else a cycle.
-use mathlib.Core.Path.{◌≡◌, refl, sym, ◌∙◌, ap}
-use mathlib.Core.Bool.{Bool, true, false}
-use mathlib.Core.List.{List}
-use Prim.Native.Nat.{ℕ, ◌≤◌}
-use native.Mathlib.Omega.{arith}
-use lib.ListN.{get_or}
+use Rattle.std.proofs.Common.{◌≡◌, refl, ap, List, ℕ, ◌≤◌, arith, length, Some, None}
 use Rattle.graph.specs.State.{State}
-use Rattle.graph.specs.Solution.{Solution}
 use Rattle.graph.specs.Verdict.{clashes, cycles}
 use Rattle.graph.proofs.SolutionLaws.{classes_no_clash, solution_verdict}
 use Rattle.store.specs.Views.{symbol_at, children_at}
 use Rattle.store.specs.declared.Terms.{Terms}
-use Rattle.solve_classes.specs.Table.{class}
+use Rattle.store.proofs.ViewLaws.{nodes_length}
+use Rattle.solve_trace.specs.declared.Entry.{Entry}
 use Rattle.solve_trace.specs.Nodes.{Nodes, Formed}
 use Rattle.solve_trace.proofs.NodeLaws.{functor_found}
 use Rattle.solve_trace.proofs.StepLaws.{ready_room}
-use Rattle.solve_heights.specs.Peel.{height_at, Peeled}
-use Rattle.solve_heights.proofs.SummandLaws.{is_class, none_left}
-use Rattle.solve_heights.proofs.OutcomeLaws.{child_under, cycle}
+use Rattle.solve_heights.specs.Peel.{Peeled}
+use Rattle.solve_heights.specs.declared.Heights.{Heights}
+use Rattle.solve_heights.proofs.OutcomeLaws.{solution, all_went, cycle}
 use Rattle.solve_closure.specs.Rounds.{Clashing}
-use Rattle.solve_closure.specs.Settled.{RoundsEnded, Settled}
-use Rattle.solve.specs.Judging.{Judging}
+use Rattle.solve_closure.specs.Settled.{Settled}
+use Rattle.solve_closure.specs.declared.Settling.{Settling}
 use Rattle.solve.specs.Decided.{Clashes, Decided}
+use Rattle.solve.specs.declared.Finding.{Finding}
 use Rattle.solve.specs.declared.Finding.TheVariants.{Solved, Clash, Cycle}
+use Rattle.solve.specs.declared.SolveResult.{SolveResult}
 
-pub judging : {g : Terms} {t tr : List ℕ} {n : ℕ} {clash : Bool} {u v : ℕ} → Formed g → RoundsEnded g t tr n clash u v → Judging g t clash u v
-judging F E =
-    record {
-      table = E.ready.table;
-      formed = F;
-      left = λ q. omega (arith, (E.meets q).left.known, F.most);
-      right = λ q. omega (arith, (E.meets q).right.known, F.most);
-    }
+abbrev pub found : List ℕ → Heights → Finding → SolveResult
+found t p v = record { table = t; heights = p; verdict = v }
 
-module _ (g : Terms) (s : State) (F : Formed g) (N : Nodes g s) (t tr : List ℕ) (k : ℕ) {clash : Bool} {u v : ℕ} (D : Settled g s t tr k clash u v) where
-  few : k ≤ 63
+module _ (g : Terms) (s : State) (F : Formed g) (N : Nodes g s) (es : List Entry) {o : Settling} (D : Settled g s o es) where
+  few : length es ≤ 63
   few = omega (arith, ready_room D.ended.ready)
 
-  clashes_at : (x y : ℕ) → x ≡ u → y ≡ v → Clashing g t u v → Clashes s t x y
-  clashes_at x y ex ey C =
-      rw (ex, ey)
-      (record {
+  clashes_at : (u v : ℕ) → Clashing g o.table u v → Clashes s o.table u v
+  clashes_at u v C =
+      record {
         f = symbol_at g u;
         g = symbol_at g v;
         cs = children_at g u;
@@ -49,39 +39,26 @@ module _ (g : Terms) (s : State) (F : Formed g) (N : Nodes g s) (t tr : List ℕ
         at_v = functor_found g s N v C.right;
         differ = C.differ;
         joined = C.joined;
-      })
+      }
 
-  pub decided_clash : (h : List ℕ) (x y : ℕ) → x ≡ u → y ≡ v → clash ≡ true → Decided s t h tr k (Clash x y)
-  decided_clash h x y ex ey q =
+  pub decided_clash : (p : Heights) (u v : ℕ) → o.clash ≡ Some (u, v) → Decided s (found o.table p (Clash u v)) es
+  decided_clash p u v q =
       record {
         proper = D.proper;
-        verdict = clashes (D.clashes q);
+        verdict = clashes (D.clashes u v q);
         ready = D.ended.ready;
         few = few;
         traced = D.traced;
         sound = D.sound;
         exact = λ d. absurd (d refl);
-        because = clashes_at x y ex ey (D.ended.meets q);
+        because = clashes_at u v (D.ended.meets u v q);
       }
 
-  module _ (h : List ℕ) (n : ℕ) (q : clash ≡ false) (P : Peeled g t h n) where
-    -- where nothing is left, the table and heights are a solution
-    abbrev solution : n ≡ 0 → Solution s
-    solution z =
-        let E = D.exact q in
-        record {
-          classes = E.classes;
-          height = λ u. get_or h (class t u) 0;
-          level = λ u v hu hv e. ap (height_at h) (sym (E.table u) ∙ e ∙ E.table v);
-          lower = λ u f i v cs m c.
-              let K = child_under g s N u f i v cs m c in
-              let gone : height_at h (class t u) ≡ 255 → ⊥ = none_left g t h (omega (arith, z, P.count)) (class t u) (is_class g t D.ended.ready.table F u K.0.known) in
-              rw (← K.1.1) (P.lower u i K.0 K.1.0 gone);
-        }
-
-    pub decided_solved : n ≡ 0 → Decided s t h tr k Solved
+  module _ (p : Heights) (q : o.clash ≡ None) (P : Peeled g o.table p) where
+    pub decided_solved : p.left ≡ 0 → Decided s (found o.table p Solved) es
     decided_solved z =
-        let S = solution z in
+        let E = D.exact q in
+        let S = solution g s o.table p D.ended.ready.table F N E P z in
         record {
           proper = D.proper;
           verdict = solution_verdict s D.proper S;
@@ -89,14 +66,21 @@ module _ (g : Terms) (s : State) (F : Formed g) (N : Nodes g s) (t tr : List ℕ
           few = few;
           traced = D.traced;
           sound = D.sound;
-          exact = λ d. D.exact q;
-          because = record { exact = D.exact q; solution = S; classes = λ u. (D.exact q).table u; heights = λ u. refl };
+          exact = λ d. E;
+          because =
+              record {
+                exact = E;
+                solution = S;
+                classes = λ u. E.table u;
+                heights = λ u. refl;
+                went = λ u h. all_went g s o.table p D.ended.ready.table F N E P z u (omega (arith, nodes_length g, ap length N, h));
+              };
         }
 
-    pub decided_cycle : (n ≡ 0 → ⊥) → Decided s t h tr k Cycle
+    pub decided_cycle : (p.left ≡ 0 → ⊥) → Decided s (found o.table p Cycle) es
     decided_cycle z =
         let E = D.exact q in
-        let C = cycle g s t h n D.ended.ready.table F N E P z in
+        let C = cycle g s o.table p D.ended.ready.table F N E P z in
         record {
           proper = D.proper;
           verdict = cycles (classes_no_clash s E.classes) C;

@@ -1,5 +1,5 @@
 -- Laws of the verdict.
 --   DecidedLaws  a settled closure, decided
---   VerdictLaws  each verdict just where document 01 has it; a decided state serves an equation offered
+--   VerdictLaws  each verdict just where it holds; a decided state serves an equation offered
 pub mod DecidedLaws
 pub mod VerdictLaws

@@ -1,3 +1,2 @@
 -- What the solver's contracts cite.
 pub mod Decided
-pub mod Judging

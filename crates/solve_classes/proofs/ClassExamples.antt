@@ -7,7 +7,7 @@ use native.Mathlib.Omega.{arith}
 use mathlib.Core.Option.{some}
 use lib.ListN.{get_or, get_elem?}
 use lib.Dec.{eqb}
-use Rattle.graph.specs.State.{functor, Equation, equation_of, State, IsNode, FunctorAt}
+use Rattle.graph.specs.State.{Equation, equation_of, State, IsNode, FunctorAt}
 use Rattle.graph.specs.Closure.{Same, equation, reflexivity, symmetry, transitivity}
 use Rattle.graph.proofs.SolutionTest.{is_classes, apart}
 use Rattle.base.proofs.AbsurdLaws.{zero_is_one, true_is_false}

@@ -27,12 +27,3 @@ module _ (f : ℕ → ℕ) (t : List ℕ) where
             (get_or-set_same out i v 0 (omega (arith, m.size)) ∙ e ∙ ap f (m.rest i (omega arith)));
         rest = λ k l. get_or-set_other out i k v 0 (λ q. omega (arith, q)) ∙ m.rest k (omega arith);
       }
-
-  -- the element at i is as f has it already
-  pub mapped_skip : (i : ℕ) (out : List ℕ) → Mapped f t i out → get_or out i 0 ≡ f (get_or out i 0) → Mapped f t (i + 1) out
-  mapped_skip i out m e =
-      record {
-        size = m.size;
-        done = below_more (λ k. get_or out k 0 ≡ f (get_or t k 0)) i m.done (e ∙ ap f (m.rest i (omega arith)));
-        rest = λ k l. m.rest k (omega arith);
-      }

@@ -10,7 +10,7 @@
 --   CountOf       k of the numbers below n have P
 --   ClassNumber   document 02 (b): "the lowest functor node of the class, and the lowest variable where there is none"
 --   ClassOf       the class reply: a class number, "and how many nodes the class has"
-use Rattle.std.specs.Prelude.{◌≡◌, Bool, true, false, ◌&&◌, cond, List, ℕ, zero, suc, ◌+◌, ◌*◌, ◌^◌, ◌≤◌, ◌<◌, length, get_or, eqb, ltb}
+use Rattle.std.specs.Prelude.{◌≡◌, Bool, ◌&&◌, cond, List, ℕ, zero, suc, ◌+◌, ◌*◌, ◌^◌, ◌≤◌, ◌<◌, length, get_or, eqb, ltb}
 use Rattle.graph.specs.State.{State, variable, NodeAt, FunctorAt}
 use Rattle.graph.specs.Closure.{Same}
 use Rattle.solve_classes.specs.Table.{class}

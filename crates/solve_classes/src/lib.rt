@@ -5,32 +5,25 @@ ghost use Rattle.std.specs.Prelude.{◌≡◌, ℕ, ◌<◌};
 ghost use Rattle.solve_classes.specs.Table.{class, Fresh, Relabelled, Table, Merged};
 ghost use Rattle.solve_classes.specs.Members.{in_class, functor_kind, set_of, size_of, class_number};
 
+use std::array;
+
 // Each node alone, to start.
 pub fn fresh() -> [u8; 64]
     ensures { Fresh result }
 {
-    let mut out = [0u8; 64];
-    let mut i: u8 = 0;
-    while i < 64 {
-        out[i as usize] = i;
-        i += 1;
-    }
-    out
+    array::from_fn(|i| i as u8)
 }
 
 // Every entry equal to `gone` becomes `keep`.
-fn relabel(table: [u8; 64], keep: u8, gone: u8) -> [u8; 64]
+fn relabel(mut table: [u8; 64], keep: u8, gone: u8) -> [u8; 64]
     ensures { Relabelled table keep gone result }
 {
-    let mut out = table;
-    let mut x: usize = 0;
-    while x < 64 {
-        if out[x] == gone {
-            out[x] = keep;
+    for x in table.iter_mut() {
+        if *x == gone {
+            *x = keep;
         }
-        x += 1;
     }
-    out
+    table
 }
 
 // Two classes become one, under the lower root.
@@ -51,28 +44,24 @@ pub fn merge(table: [u8; 64], a: u8, b: u8) -> [u8; 64]
     requires a_bound { (a < 64) × (b < 64) }
     ensures { Merged table a b result }
 {
-    let ca = table[a as usize];
-    let cb = table[b as usize];
-    unite(table, ca, cb)
+    unite(table, table[a as usize], table[b as usize])
 }
 
 // The nodes with entry `c`, one bit for each: the members of the class with that root.
 pub fn members(table: [u8; 64], c: u8) -> u64
     ensures { result ≡ set_of (in_class table c) 64 }
 {
-    let mut s: u64 = 0;
-    let mut i: usize = 0;
-    while i < 64 {
-        if table[i] == c {
-            s = s | (1 << i);
+    let mut set = 0;
+    for (i, x) in table.iter().enumerate() {
+        if *x == c {
+            set |= 1 << i;
         }
-        i += 1;
     }
-    s
+    set
 }
 
 // A class's number and size, as the class reply has them.
-#[derive(Clone, Copy)]
+#[derive(Clone, Copy, PartialEq, Eq, Debug)]
 pub struct Figures {
     pub number: u8,
     pub size: u8,
@@ -84,12 +73,10 @@ pub fn class_figures(table: [u8; 64], kind: [u8; 64], c: u8) -> Figures
     ensures { (result.number ≡ class_number (in_class table c) (functor_kind kind)) × (result.size ≡ size_of (in_class table c) 64) }
 {
     let all = members(table, c);
-    let mut shown = all & members(kind, 1);
-    if shown == 0 {
-        shown = all;
-    }
+    let functors = all & members(kind, 1);
+    let shown = if functors == 0 { all } else { functors };
     Figures {
-        number: u64::trailing_zeros(shown) as u8,
-        size: u64::count_ones(all) as u8,
+        number: shown.trailing_zeros() as u8,
+        size: all.count_ones() as u8,
     }
 }

@@ -1,11 +1,6 @@
 -- From arrays to the state that they hold: the state is proper, a clash of arrays is one of the state, and a closed table is exact.
-use mathlib.Core.Path.{◌≡◌, refl, sym, ◌∙◌, ap}
-use mathlib.Core.Bool.{Bool, true, false}
-use mathlib.Core.List.{List}
-use mathlib.Core.Option.{some}
-use Prim.Native.Nat.{ℕ, ◌<◌}
-use native.Mathlib.Omega.{arith}
-use lib.ListN.{get_or, take}
+use Rattle.std.proofs.Common.{◌≡◌, refl, sym, ◌∙◌, ap, List, [], ℕ, ◌<◌, arith, get_or}
+use Rattle.std.proofs.Math.Option.{some}
 use Rattle.graph.specs.State.{Equation, State, Held, Proper}
 use Rattle.graph.specs.Closure.{Clash}
 use Rattle.graph.specs.Solution.{Classes}
@@ -19,20 +14,22 @@ use Rattle.store.specs.declared.Terms.{Terms}
 use Rattle.store.specs.declared.Equations.{Equations}
 use Rattle.store.proofs.ViewLaws.{child_known, equations_length, equation_found}
 use Rattle.solve_trace.specs.Nodes.{Nodes, Formed, EquationEnds}
+use Rattle.solve_trace.specs.declared.Entry.{Entry}
 use Rattle.solve_trace.specs.Trace.{Traced, start}
-use Rattle.solve_trace.specs.Steps.{TraceFits, PairsJoined}
+use Rattle.solve_trace.specs.Steps.{PairsJoined}
+use Rattle.solve_closure.specs.declared.Settling.{Settling}
 use Rattle.solve_closure.specs.Rounds.{Clashing, Closed, Rounds}
 use Rattle.solve_closure.specs.Settled.{Given, ArraysHold, RoundsEnded, Settled}
 use Rattle.solve_trace.proofs.NodeLaws.{functor_found, functor_known, fits, known, formed}
 use Rattle.solve_trace.proofs.TraceLaws.{traced_sound}
 
-module _ (g : Terms) (m : ℕ) (left right : List ℕ) (s : State) (A : Given g m left right) (H : ArraysHold g m left right s) where
+module _ (g : Terms) (e : Equations) (s : State) (A : Given g e) (H : ArraysHold g e s) where
   -- a held equation stands in the arrays
-  held_at : (e : Equation) → Held s e → (k : ℕ) × ((k < m) × ((e.left ≡ get_or left k 0) × (e.right ≡ get_or right k 0)))
-  held_at e h =
-      let l : h.0 < m = omega (arith, found_lt s.equations h.0 e h.1, H.count) in
-      let q : some (H.ends.at h.0) ≡ some e = sym (H.ends.found h.0 l) ∙ h.1 in
-      let d : H.ends.at h.0 ≡ e = cc in
+  held_at : (d : Equation) → Held s d → (k : ℕ) × ((k < e.count) × ((d.left ≡ get_or e.left k 0) × (d.right ≡ get_or e.right k 0)))
+  held_at c h =
+      let l : h.0 < e.count = omega (arith, found_lt s.equations h.0 c h.1, H.count) in
+      let q : some (H.ends.at h.0) ≡ some c = sym (H.ends.found h.0 l) ∙ h.1 in
+      let d : H.ends.at h.0 ≡ c = cc in
       (h.0, (l, (ap (λ (x : Equation). x.left) (sym d) ∙ H.ends.lefts h.0 l, ap (λ (x : Equation). x.right) (sym d) ∙ H.ends.rights h.0 l)))
 
   pub proper : Proper s
@@ -42,8 +39,8 @@ module _ (g : Terms) (m : ℕ) (left right : List ℕ) (s : State) (A : Given g 
             let K = functor_known g s H.nodes u f cs n in
             let C = child_known g u i v (rw (← K.1.1) at c) in
             omega (arith, A.formed.earlier u i K.0.known C.0, C.1);
-        left_known = λ e h. let w = held_at e h in known g s H.nodes e.left (omega (arith, w.1.1.0, A.lefts w.0 w.1.0));
-        right_known = λ e h. let w = held_at e h in known g s H.nodes e.right (omega (arith, w.1.1.1, A.rights w.0 w.1.0));
+        left_known = λ d h. let w = held_at d h in known g s H.nodes d.left (omega (arith, w.1.1.0, A.lefts w.0 w.1.0));
+        right_known = λ d h. let w = held_at d h in known g s H.nodes d.right (omega (arith, w.1.1.1, A.rights w.0 w.1.0));
       }
 
 module _ (g : Terms) (s : State) (N : Nodes g s) (t : List ℕ) (inside : Sound s t) where
@@ -84,11 +81,11 @@ module _ (g : Terms) (s : State) (N : Nodes g s) (t : List ℕ) (inside : Sound 
     exact_of = record { classes = classes_of; table = λ u. refl; has = λ q. same_class s classes_of q; only = inside }
 
 -- well-shaped arrays are what settling asks, and hold their own state
-pub given_shape : (g : Terms) (e : Equations) → Shape g e → Given g e.count e.left e.right
+pub given_shape : (g : Terms) (e : Equations) → Shape g e → Given g e
 given_shape g e S =
     record { formed = formed g S.terms; most = S.equations.few; lefts = S.equations.lefts; rights = S.equations.rights }
 
-pub holds_state : (g : Terms) (e : Equations) → ArraysHold g e.count e.left e.right (state_from g e)
+pub holds_state : (g : Terms) (e : Equations) → ArraysHold g e (state_from g e)
 holds_state g e =
     record {
       nodes = refl;
@@ -96,37 +93,33 @@ holds_state g e =
       count = equations_length e;
     }
 
+pub ended : {g : Terms} {t : List ℕ} {es fs : List Entry} {o : Settling} → Rounds g t es o fs → RoundsEnded g o fs
+ended W = record { ready = W.extends.ready; meets = W.clashes }
+
 -- a trace and the table's rules give the verdict
-pub verdict : (g : Terms) (s : State) (r us : List ℕ) (k : ℕ) (clash : Bool) (u v : ℕ) → Formed g → Nodes g s → Proper s → TraceFits r us k → Traced s (take k us) r
-    → (clash ≡ true → Clashing g r u v) → (clash ≡ false → Closed g r) → ((e : Equation) → Held s e → class r e.left ≡ class r e.right)
-    → Settled g s r us k clash u v
-verdict g s r us k clash u v F N P R T clashes closes equated =
-    let inside : Sound s r = traced_sound s P (fits g s N F) T in
+pub verdict : (g : Terms) (s : State) {t : List ℕ} {es fs : List Entry} {o : Settling} → Formed g → Nodes g s → Proper s → Rounds g t es o fs → Traced s fs o.table
+    → ((e : Equation) → Held s e → class o.table e.left ≡ class o.table e.right) → Settled g s o fs
+verdict g s {o} F N P W T equated =
+    let inside : Sound s o.table = traced_sound s P (fits g s N F) T in
     record {
-      ended = record { ready = R; meets = clashes };
+      ended = ended W;
       traced = T;
       proper = P;
       sound = inside;
-      clashes = λ q. clash_of g s N r inside u v (clashes q);
-      exact = λ q. exact_of g s N r inside (closes q) equated;
+      clashes = λ u v q. clash_of g s N o.table inside u v (W.clashes u v q);
+      exact = λ q. exact_of g s N o.table inside (W.closes q) equated;
     }
 
 -- the whole run: equations from the fresh table, then rounds
-pub solved : (g : Terms) (m : ℕ) (left right f tr : List ℕ) {t ts : List ℕ} {n : ℕ} {r us : List ℕ} {k : ℕ} {clash : Bool} {u v : ℕ} → Given g m left right
-    → Fresh f
-    → PairsJoined (EquationEnds m left right) (λ j. get_or left j 0) (λ j. get_or right j 0) m f tr 0 t ts n
-    → Rounds g t ts n r us k clash u v
-    → (s : State) → ArraysHold g m left right s → Settled g s r us k clash u v
-solved g m left right f tr {t} {ts} {n} {r} {us} {k} {clash} {u} {v} A F P W s H =
-    verdict g s r us k clash u v A.formed H.nodes (proper g m left right s A H) W.extends.ready
+pub solved : (g : Terms) (e : Equations) (f : List ℕ) {t : List ℕ} {es fs : List Entry} {o : Settling} → Given g e → Fresh f
+    → PairsJoined (EquationEnds e) (λ j. get_or e.left j 0) (λ j. get_or e.right j 0) e.count f [] t es
+    → Rounds g t es o fs
+    → (s : State) → ArraysHold g e s → Settled g s o fs
+solved g e f {o} A F P W s H =
+    verdict g s A.formed H.nodes (proper g e s A H) W
     (W.extends.traced s H.nodes (P.extends.traced s H.ends (start F)))
-    W.clashes
-    W.closes
-    (λ e h.
-    let w = held_at g m left right s A H e h in
-    ap (class r) w.1.1.0
+    (λ d h.
+    let w = held_at g e s A H d h in
+    ap (class o.table) w.1.1.0
     ∙ W.extends.grows _ _ (omega (arith, A.lefts w.0 w.1.0, A.formed.most)) (omega (arith, A.rights w.0 w.1.0, A.formed.most)) (P.joined w.0 w.1.0)
-    ∙ sym (ap (class r) w.1.1.1))
-
-pub ended : {g : Terms} {t ts : List ℕ} {n : ℕ} {r us : List ℕ} {k : ℕ} {clash : Bool} {u v : ℕ} → Rounds g t ts n r us k clash u v → RoundsEnded g r us k clash u v
-ended W = record { ready = W.extends.ready; meets = W.clashes }
+    ∙ sym (ap (class o.table) w.1.1.1))

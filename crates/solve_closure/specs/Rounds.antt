@@ -1,15 +1,16 @@
--- What a pair, a visit, a round and a run of rounds do to the table t, the trace tr and the number n of its entries.
---   Clashing  two functor nodes of one class and different labels: document 01's clash, as the arrays have it
+-- What a round and a run of rounds do to the table t and the trace es.
+--   Clashing  two functor nodes of one class and different labels: a clash, as the arrays have it
 --   Agree     two functor nodes have one label, and children of one class, place by place
 --   Closed    functor nodes of one class agree: the table keeps the rules of the closure
---   Meeting   what a pair asks: two functor nodes of one class; Pair: what it gives
 --   Round     a round over all nodes; Rounds: rounds to the end
-use Rattle.std.specs.Prelude.{◌≡◌, Bool, true, false, List, ℕ, ◌<◌}
+use Rattle.std.specs.Prelude.{◌≡◌, List, ℕ, ◌<◌, length, Some, None}
 use Rattle.solve_classes.specs.Table.{class}
 use Rattle.store.specs.Views.{arity_at, child_at}
 use Rattle.store.specs.declared.Terms.{Terms}
-use Rattle.solve_trace.specs.Nodes.{Nodes, IsFunctor, Alike, Formed}
-use Rattle.solve_trace.specs.Steps.{TraceFits, Extends}
+use Rattle.solve_trace.specs.declared.Entry.{Entry}
+use Rattle.solve_trace.specs.Nodes.{Nodes, IsFunctor, Alike}
+use Rattle.solve_trace.specs.Steps.{Extends}
+use Rattle.solve_closure.specs.declared.Settling.{Settling}
 
 pub record Clashing (g : Terms) (t : List ℕ) (u v : ℕ) : Type 0 where
   pub left : IsFunctor g u
@@ -24,28 +25,14 @@ pub record Agree (g : Terms) (t : List ℕ) (u v : ℕ) : Type 0 where
 abbrev pub Closed : Terms → List ℕ → Type 0
 Closed g t = (u v : ℕ) → IsFunctor g u → IsFunctor g v → class t u ≡ class t v → Agree g t u v
 
--- what a pair asks: two functor nodes of one class
-pub record Meeting (g : Terms) (u v : ℕ) (t tr : List ℕ) (n : ℕ) : Type 0 where
-  pub ready : TraceFits t tr n
-  pub formed : Formed g
-  pub left : IsFunctor g u
-  pub right : IsFunctor g v
-  pub joined : class t u ≡ class t v
-
--- two functor nodes of one class: their labels differ, or, where nothing was merged, they agree
-pub record Pair (g : Terms) (u v : ℕ) (t tr : List ℕ) (n : ℕ) (r ts : List ℕ) (m : ℕ) (clash : Bool) : Type 0 where
-  pub extends : Extends (Nodes g) t tr n r ts m
-  pub clashes : clash ≡ true → Alike g u v → ⊥
-  pub agrees : clash ≡ false → m ≡ n → Agree g t u v
-
 -- a round over all nodes: a clash, or, where nothing was merged, the table is closed
-pub record Round (g : Terms) (t tr : List ℕ) (n : ℕ) (r ts : List ℕ) (m : ℕ) (clash : Bool) (x y : ℕ) : Type 0 where
-  pub extends : Extends (Nodes g) t tr n r ts m
-  pub clashes : clash ≡ true → Clashing g r x y
-  pub closes : clash ≡ false → m ≡ n → Closed g r
+pub record Round (g : Terms) (t : List ℕ) (es : List Entry) (o : Settling) (fs : List Entry) : Type 0 where
+  pub extends : Extends (Nodes g) t es o.table fs
+  pub clashes : (u v : ℕ) → o.clash ≡ Some (u, v) → Clashing g o.table u v
+  pub closes : o.clash ≡ None → length fs ≡ length es → Closed g o.table
 
 -- rounds to the end: a clash, or the table is closed
-pub record Rounds (g : Terms) (t tr : List ℕ) (n : ℕ) (r ts : List ℕ) (m : ℕ) (clash : Bool) (x y : ℕ) : Type 0 where
-  pub extends : Extends (Nodes g) t tr n r ts m
-  pub clashes : clash ≡ true → Clashing g r x y
-  pub closes : clash ≡ false → Closed g r
+pub record Rounds (g : Terms) (t : List ℕ) (es : List Entry) (o : Settling) (fs : List Entry) : Type 0 where
+  pub extends : Extends (Nodes g) t es o.table fs
+  pub clashes : (u v : ℕ) → o.clash ≡ Some (u, v) → Clashing g o.table u v
+  pub closes : o.clash ≡ None → Closed g o.table

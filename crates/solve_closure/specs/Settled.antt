@@ -5,54 +5,57 @@
 --   Settled       the trace made the table; a clash, or the table is exact
 --   OfferFits     what settling one offered equation more asks
 --   Before        the table and trace are those of a state, before an equation is offered
-use Rattle.std.specs.Prelude.{◌≡◌, Bool, true, false, List, ℕ, ◌≤◌, ◌<◌, length, get_or, take}
+use Rattle.std.specs.Prelude.{◌≡◌, List, ℕ, ◌≤◌, ◌<◌, length, get_or, Some, None}
 use Rattle.graph.specs.Limits.{equation_limit}
 use Rattle.graph.specs.State.{Equation, State, Held, Proper}
 use Rattle.graph.specs.Closure.{Clash}
 use Rattle.solve_classes.specs.Table.{class}
 use Rattle.solve_classes.specs.Exact.{Exact, Sound}
 use Rattle.store.specs.declared.Terms.{Terms}
+use Rattle.store.specs.declared.Equations.{Equations}
+use Rattle.solve_trace.specs.declared.Entry.{Entry}
 use Rattle.solve_trace.specs.Nodes.{Nodes, EquationEnds, Formed}
 use Rattle.solve_trace.specs.Trace.{Traced}
 use Rattle.solve_trace.specs.Steps.{TraceFits}
 use Rattle.solve_closure.specs.Rounds.{Clashing}
+use Rattle.solve_closure.specs.declared.Settling.{Settling}
 
-pub record Given (g : Terms) (m : ℕ) (left right : List ℕ) : Type 0 where
+pub record Given (g : Terms) (e : Equations) : Type 0 where
   pub formed : Formed g
-  pub most : m ≤ equation_limit
-  pub lefts : (k : ℕ) → k < m → get_or left k 0 < g.count
-  pub rights : (k : ℕ) → k < m → get_or right k 0 < g.count
+  pub most : e.count ≤ equation_limit
+  pub lefts : (k : ℕ) → k < e.count → get_or e.left k 0 < g.count
+  pub rights : (k : ℕ) → k < e.count → get_or e.right k 0 < g.count
 
-pub record ArraysHold (g : Terms) (m : ℕ) (left right : List ℕ) (s : State) : Type 0 where
+pub record ArraysHold (g : Terms) (e : Equations) (s : State) : Type 0 where
   pub nodes : Nodes g s
-  pub ends : EquationEnds m left right s
-  pub count : length s.equations ≡ m
+  pub ends : EquationEnds e s
+  pub count : length s.equations ≡ e.count
 
-pub record RoundsEnded (g : Terms) (t tr : List ℕ) (n : ℕ) (clash : Bool) (u v : ℕ) : Type 0 where
-  pub ready : TraceFits t tr n
-  pub meets : clash ≡ true → Clashing g t u v
+pub record RoundsEnded (g : Terms) (o : Settling) (es : List Entry) : Type 0 where
+  pub ready : TraceFits o.table es
+  pub meets : (u v : ℕ) → o.clash ≡ Some (u, v) → Clashing g o.table u v
 
-pub record Settled (g : Terms) (s : State) (t tr : List ℕ) (n : ℕ) (clash : Bool) (u v : ℕ) : Type 0 where
-  pub ended : RoundsEnded g t tr n clash u v
-  pub traced : Traced s (take n tr) t
+pub record Settled (g : Terms) (s : State) (o : Settling) (es : List Entry) : Type 0 where
+  pub ended : RoundsEnded g o es
+  pub traced : Traced s es o.table
   pub proper : Proper s
-  pub sound : Sound s t
-  pub clashes : clash ≡ true → Clash s
-  pub exact : clash ≡ false → Exact s t
+  pub sound : Sound s o.table
+  pub clashes : (u v : ℕ) → o.clash ≡ Some (u, v) → Clash s
+  pub exact : o.clash ≡ None → Exact s o.table
 
-pub record OfferFits (g : Terms) (m x y : ℕ) (t tr : List ℕ) (n : ℕ) : Type 0 where
+pub record OfferFits (g : Terms) (m x y : ℕ) (t : List ℕ) (es : List Entry) : Type 0 where
   pub formed : Formed g
-  pub ready : TraceFits t tr n
+  pub ready : TraceFits t es
   pub most : m ≤ equation_limit
   pub left : x < g.count
   pub right : y < g.count
 
 -- the table and trace are those of a state of m equations, and e has the ends x and y
-pub record Before (g : Terms) (s : State) (e : Equation) (m x y : ℕ) (t tr : List ℕ) (n : ℕ) : Type 0 where
+pub record Before (g : Terms) (s : State) (e : Equation) (m x y : ℕ) (t : List ℕ) (es : List Entry) : Type 0 where
   pub nodes : Nodes g s
   pub proper : Proper s
   pub count : length s.equations ≡ m
   pub lefts : e.left ≡ x
   pub rights : e.right ≡ y
-  pub traced : Traced s (take n tr) t
+  pub traced : Traced s es t
   pub equated : (d : Equation) → Held s d → class t d.left ≡ class t d.right

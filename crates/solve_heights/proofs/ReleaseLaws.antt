@@ -1,152 +1,241 @@
--- One visit of the peel: node u is left as it is, or released. What is known of the nodes and of what classes wait for once it is, and the
--- visit where its class still waits.
+-- One visit of the peel: node u is left as it is, or released, and then its class waits still, or goes and gets its height.
 use mathlib.Core.Path.{◌≡◌, refl, sym, ◌∙◌, ap}
-use mathlib.Core.Bool.{cond}
+use mathlib.Core.Bool.{Bool, true, false, cond}
 use mathlib.Core.Logic.{⊎_elim}
 use mathlib.Core.List.{List}
-use Prim.Native.Nat.{ℕ, ◌+◌, ◌≤◌, ◌<◌}
-use native.Mathlib.Nat.{eq-or-lt_of_le}
+use Prim.Native.Nat.{ℕ, ◌+◌, ◌-◌, ◌<◌}
 use native.Mathlib.Omega.{arith}
 use lib.Dec.{eqb}
-use lib.ListN.{length, get_or, set, length-set}
+use lib.ListN.{get_or, set, length-set}
 use lib.Seq.{get_or-set_same, get_or-set_other}
+use Rattle.std.specs.Prelude.{Option, Some, None}
 use Rattle.base.specs.Sum.{sum_to}
+use Rattle.base.proofs.AbsurdLaws.{true_is_false}
 use Rattle.base.proofs.CaseLaws.{same_or_other}
 use Rattle.base.proofs.SumLaws.{sum_at}
 use Rattle.store.specs.declared.Terms.{Terms}
-use Rattle.solve_classes.specs.Table.{class}
-use Rattle.solve_heights.specs.Peel.{no_height, height_at, Stuck}
-use Rattle.solve_heights.specs.Passes.{wait_at, Peeling, Visiting, Visited}
+use Rattle.solve_classes.specs.Table.{class, Table}
+use Rattle.solve_trace.specs.Nodes.{Formed}
+use Rattle.solve_heights.specs.Nodes.{under}
+use Rattle.solve_heights.specs.Peel.{height_at, left_at, left, Stuck, Lower}
+use Rattle.solve_heights.specs.Passes.{pending_at, wait_at, Peeling}
+use Rattle.solve_heights.specs.declared.Peeler.{Peeler}
 use Rattle.solve_heights.proofs.CountLaws.{sum_agree, sum_one}
-use Rattle.solve_heights.proofs.SummandLaws.{wait_in, wait_out, classes_most, class_low}
+use Rattle.solve_heights.proofs.OptionLaws.{none_or_some, not_both}
+use Rattle.solve_heights.proofs.SummandLaws.{wait_in, wait_out, wait_done, left_one, left_gone, left_same, classes_most, class_low, is_class, under_low}
 
--- node u, of a class that is left, is released: its class waits for `rest` nodes more
-pub record Released (g : Terms) (t h p w : List ℕ) (u rest : ℕ) (q x : List ℕ) : Type 0 where
-  pub own_left : height_at h (class t u) ≡ no_height
-  pub pending_size : length q ≡ 64
-  pub waiting_size : length x ≡ 64
-  pub done : get_or q u 0 ≡ 0
-  pub fewer : (v : ℕ) → get_or p v 0 ≡ 0 → get_or q v 0 ≡ 0
-  pub ones : (v : ℕ) → v < g.count → get_or q v 0 ≤ 1
-  pub free : (v : ℕ) → get_or q v 0 ≡ 0 → Stuck g t h v → ⊥
-  pub waits : (k : ℕ) → k < 64 → get_or x k 0 ≡ sum_to (wait_at t q k) g.count
-  pub own : get_or x (class t u) 0 ≡ rest
-  pub other : (k : ℕ) → (k ≡ class t u → ⊥) → get_or x k 0 ≡ get_or w k 0
+module _ (g : Terms) (t : List ℕ) (p : Peeler) (u : ℕ) (known : u < g.count) (P : Peeling g t p) where
+  abbrev T : Table t
+  T = P.table
 
-module _ (g : Terms) (t h p w : List ℕ) (went u : ℕ) (A : Visiting g t h p w went u) where
-  abbrev P : Peeling g t h p w went
-  P = A.peeling
+  abbrev F : Formed g
+  F = P.formed
 
   abbrev c : ℕ
   c = class t u
 
   pub own_low : class t u < 64
-  own_low = class_low g t A.table A.formed u A.known
+  own_low = class_low g t T F u known
 
-  pub small : went < no_height
-  small = omega (arith, P.count, classes_most g t, A.formed.most)
+  pub small : p.went < 255
+  small = omega (arith, P.count, P.total, classes_most g t, F.most)
 
-  -- node u is left as it is: it was released before, or it is stuck
-  pub visit_same : ((get_or p u 0 ≡ 0 → ⊥) → Stuck g t h u) → Visited g t h p went u h p w went
-  visit_same s =
-      record { peeling = P; risen = omega arith; same = λ e. refl; fewer = λ v e. e; stuck = λ e d. s d }
-
-  module _ (d : get_or p u 0 ≡ 0 → ⊥) (free : Stuck g t h u → ⊥) where
-    one : get_or p u 0 ≡ 1
-    one = ⊎_elim (λ e. e) (λ l. absurd (d (omega (arith, l)))) (eq-or-lt_of_le (P.ones u A.known))
-
-    pub some_wait : 0 < get_or w (class t u) 0
-    some_wait = omega (arith, P.waits c own_low, sum_at (wait_at t p c) g.count u A.known, wait_in t p c u refl, one)
+  module _ (d : pending_at p.pending u ≡ true) (free : Stuck g t p.height u → ⊥) where
+    pub some_wait : 0 < get_or p.waiting (class t u) 0
+    some_wait = omega (arith, P.waits c own_low, sum_at (wait_at t p.pending c) g.count u known, wait_in t p.pending c u refl d)
 
     -- its class is left
-    own_left : height_at h c ≡ no_height
-    own_left = ⊎_elim (λ e. e) (λ n. absurd (omega (arith, P.gone_waits c own_low n, some_wait))) (same_or_other no_height (height_at h c))
+    own_left : height_at p.height c ≡ None
+    own_left = ⊎_elim (λ e. e) (λ w. absurd (omega (arith, P.gone_waits c w.0 own_low w.1, some_wait))) (none_or_some (height_at p.height c))
 
-    abbrev q : List ℕ
-    q = set p u 0
+    abbrev after : List Bool
+    after = set p.pending u false
 
-    q_same : get_or q u 0 ≡ 0
-    q_same = get_or-set_same p u 0 0 (omega (arith, P.pending_size, A.known, A.formed.most))
+    done : pending_at after u ≡ false
+    done = get_or-set_same p.pending u false false (omega (arith, P.pending_size, known, F.most))
 
-    q_other : (v : ℕ) → (v ≡ u → ⊥) → get_or q v 0 ≡ get_or p v 0
-    q_other v n = get_or-set_other p u v 0 0 n
+    others : (v : ℕ) → (v ≡ u → ⊥) → pending_at after v ≡ pending_at p.pending v
+    others v n = get_or-set_other p.pending u v false false n
 
-    q_ones : (v : ℕ) → v < g.count → get_or q v 0 ≤ 1
-    q_ones v l = ⊎_elim (λ k. omega (arith, ap (λ (z : ℕ). get_or q z 0) k, q_same)) (λ k. omega (arith, q_other v k, P.ones v l)) (same_or_other u v)
+    -- a node that is released now was so before, or is node u
+    pub fewer : (v : ℕ) → pending_at after v ≡ true → pending_at p.pending v ≡ true
+    fewer v e = ⊎_elim (λ m. true_is_false (sym e ∙ rw m done)) (λ m. sym (others v m) ∙ e) (same_or_other u v)
 
-    -- the class of u waits for one node less, the others as before
-    own_sum : sum_to (wait_at t p c) g.count ≡ sum_to (wait_at t q c) g.count + 1
-    own_sum =
-        sum_one (wait_at t p c) (wait_at t q c) g.count u A.known
-        (omega (arith, wait_in t p c u refl, wait_in t q c u refl, one, q_same))
-        (λ v l m. ap (λ (z : ℕ). cond (eqb (class t v) c) z 0) (sym (q_other v m)))
+    own_free : (v : ℕ) → pending_at after v ≡ false → Stuck g t p.height v → ⊥
+    own_free v z S = ⊎_elim (λ m. free (rw m at S)) (λ m. P.released v (sym (others v m) ∙ z) S) (same_or_other u v)
 
-    other_sum : (k : ℕ) → (k ≡ c → ⊥) → sum_to (wait_at t p k) g.count ≡ sum_to (wait_at t q k) g.count
-    other_sum k n =
-        sum_agree (wait_at t p k) (wait_at t q k) g.count
-        (λ v l.
-        ⊎_elim
-        (λ m. wait_out t p k v (λ z. n (sym z ∙ ap (class t) m)) ∙ sym (wait_out t q k v (λ z. n (sym z ∙ ap (class t) m))))
-        (λ m. ap (λ (z : ℕ). cond (eqb (class t v) k) z 0) (sym (q_other v m)))
-        (same_or_other u v))
+    -- `rest`: how many nodes its class waits for from now on
+    module _ (rest : ℕ) (r : rest + 1 ≡ get_or p.waiting (class t u) 0) where
+      abbrev later : List ℕ
+      later = set p.waiting (class t u) rest
 
-    module _ (rest : ℕ) (r : rest + 1 ≡ get_or w (class t u) 0) where
-      abbrev x : List ℕ
-      x = set w c rest
+      own : get_or later c 0 ≡ rest
+      own = get_or-set_same p.waiting c rest 0 (omega (arith, P.waiting_size, own_low))
 
-      x_same : get_or x c 0 ≡ rest
-      x_same = get_or-set_same w c rest 0 (omega (arith, P.waiting_size, own_low))
+      other : (k : ℕ) → (k ≡ c → ⊥) → get_or later k 0 ≡ get_or p.waiting k 0
+      other k n = get_or-set_other p.waiting c k rest 0 n
 
-      x_other : (k : ℕ) → (k ≡ c → ⊥) → get_or x k 0 ≡ get_or w k 0
-      x_other k n = get_or-set_other w c k rest 0 n
+      waits : (k : ℕ) → k < 64 → get_or later k 0 ≡ sum_to (wait_at t after k) g.count
+      waits k l =
+          ⊎_elim
+          (λ m.
+          rw m
+          (omega (
+            arith,
+            own,
+            r,
+            P.waits c own_low,
+            sum_one (wait_at t p.pending c) (wait_at t after c) g.count u known
+                (omega (arith, wait_in t p.pending c u refl d, wait_done t after c u done))
+                (λ v h n. ap (λ (z : Bool). cond (eqb (class t v) c) (cond z 1 0) 0) (sym (others v n))),
+          )))
+          (λ m.
+          other k m
+          ∙ P.waits k l
+          ∙ sum_agree (wait_at t p.pending k) (wait_at t after k) g.count
+          (λ v h.
+          ⊎_elim
+          (λ n. rw n (wait_out t p.pending k u (λ z. m (sym z)) ∙ sym (wait_out t after k u (λ z. m (sym z)))))
+          (λ n. ap (λ (z : Bool). cond (eqb (class t v) k) (cond z 1 0) 0) (sym (others v n)))
+          (same_or_other u v)))
+          (same_or_other c k)
 
-      pub node_released : Released g t h p w u rest (set p u 0) (set w (class t u) rest)
-      node_released =
+      -- the class of u still waits
+      still_waits : (rest ≡ 0 → ⊥) → Peeling g t (record p { pending = set p.pending u false; waiting = set p.waiting (class t u) rest })
+      still_waits z =
           record {
-            own_left = own_left;
-            pending_size = length-set p u 0 ∙ P.pending_size;
-            waiting_size = length-set w c rest ∙ P.waiting_size;
-            done = q_same;
-            fewer = λ v e. ⊎_elim (λ k. rw k q_same) (λ k. q_other v k ∙ e) (same_or_other u v);
-            ones = q_ones;
-            -- a node that is released now was so before, or is node u
-            free = λ v z S. ⊎_elim (λ m. free (rw m at S)) (λ m. P.released v (sym (q_other v m) ∙ z) S) (same_or_other u v);
-            waits = λ k l. ⊎_elim
-                (λ m. rw m (omega (arith, x_same, own_sum, P.waits c own_low)))
-                (λ m. x_other k m ∙ P.waits k l ∙ other_sum k m)
+            height_size = P.height_size;
+            pending_size = length-set p.pending u false ∙ P.pending_size;
+            waiting_size = length-set p.waiting c rest ∙ P.waiting_size;
+            waits = waits;
+            left_waits = λ k C e. ⊎_elim
+                (λ m. rw m (omega (arith, own, z)))
+                (λ m. omega (arith, other k m, P.left_waits k C e))
                 (same_or_other c k);
-            own = x_same;
-            other = x_other;
+            gone_waits = λ k a l n. ⊎_elim
+                (λ m. not_both _ a own_left (rw m at n))
+                (λ m. other k m ∙ P.gone_waits k a l n)
+                (same_or_other c k);
+            released = own_free;
+            low = P.low;
+            apart = P.apart;
+            unused = P.unused;
+            lower = P.lower;
+            table = T;
+            formed = F;
+            total = P.total;
+            count = P.count;
           }
 
-  -- the class of u still waits
-  pub visit_released : {rest : ℕ} {q x : List ℕ} → Released g t h p w u rest q x → (rest ≡ 0 → ⊥) → Visited g t h p went u h q x went
-  visit_released R z =
-      record {
-        peeling =
+      -- it goes
+      module _ (z : rest ≡ 0) where
+        abbrev next : List (Option ℕ)
+        next = set p.height (class t u) (Some p.went)
+
+        n_same : height_at next c ≡ Some p.went
+        n_same = get_or-set_same p.height c (Some p.went) None (omega (arith, P.height_size, own_low))
+
+        n_other : (k : ℕ) → (k ≡ c → ⊥) → height_at next k ≡ height_at p.height k
+        n_other k n = get_or-set_other p.height c k (Some p.went) None n
+
+        n_stays : (k : ℕ) → height_at next k ≡ None → height_at p.height k ≡ None
+        n_stays k e =
+            ⊎_elim
+            (λ m. not_both _ p.went (rw m at e) n_same)
+            (λ m. sym (n_other k m) ∙ e)
+            (same_or_other c k)
+
+        -- a class that went before keeps its height
+        n_keeps : (k a : ℕ) → height_at p.height k ≡ Some a → height_at next k ≡ Some a
+        n_keeps k a n = n_other k (λ m. not_both _ a own_left (rw m at n)) ∙ n
+
+        -- a class that went, by its height: it is the new one, or went before
+        n_cases : {A : Type 0} (k a : ℕ) → height_at next k ≡ Some a → (k ≡ c → a ≡ p.went → A) → ((k ≡ c → ⊥) → height_at p.height k ≡ Some a → A) → A
+        n_cases k a n new old =
+            ⊎_elim
+            (λ m. let e : Some a ≡ Some p.went = sym n ∙ ap (height_at next) m ∙ n_same in new m cc)
+            (λ m. old m (sym (n_other k m) ∙ n))
+            (same_or_other c k)
+
+        n_lower : Lower g t next
+        n_lower v j a U k n =
+            let y = under_low g t T F v j U k in
+            n_cases (class t v) a n
+            (λ m e.
+            let none : pending_at after v ≡ false = all_done v U.known m in
+            ⊎_elim
+            (λ s. absurd (own_free v none (record { functor = U; place = j; within = k; stays = s })))
+            (λ w. (w.0, (omega (arith, P.low (under g t v j) w.0 y w.1, e), n_keeps (under g t v j) w.0 w.1)))
+            (none_or_some (height_at p.height (under g t v j))))
+            (λ m b. let w = P.lower v j a U k b in (w.0, (w.1.0, n_keeps (under g t v j) w.0 w.1.1)))
+          where
+            -- no node of the class is pending
+            all_done : (v : ℕ) → v < g.count → class t v ≡ c → pending_at after v ≡ false
+            all_done v l m = go (pending_at after v) refl
+              where
+                go : (b : Bool) → pending_at after v ≡ b → pending_at after v ≡ false
+                go true e = absurd (omega (arith, z, own, waits c own_low, sum_at (wait_at t after c) g.count v l, wait_in t after c v m e))
+                go false e = e
+
+        n_apart : (a b n : ℕ) → a < 64 → b < 64 → height_at next a ≡ Some n → height_at next b ≡ Some n → a ≡ b
+        n_apart a b n la lb e f =
+            n_cases a n e
+            (λ m q. n_cases b n f (λ o _. m ∙ sym o) (λ o h. absurd (omega (arith, q, P.low b n lb h))))
+            (λ m h. n_cases b n f (λ o q. absurd (omega (arith, q, P.low a n la h))) (λ o i. P.apart a b n la lb h i))
+
+        n_count : p.went + 1 + left g t next ≡ p.total
+        n_count =
+            let C = is_class g t T F u known in
+            omega (
+              arith,
+              P.count,
+              sum_one (left_at t p.height) (left_at t next) g.count c C.known
+                  (omega (arith, left_one t p.height c C.lowest own_left, left_gone t next c p.went n_same))
+                  (λ k l m. left_same t p.height next k (n_other k m)),
+            )
+
+        -- what is stuck now was so before
+        n_stuck : (v : ℕ) → Stuck g t next v → Stuck g t p.height v
+        n_stuck v S = record { functor = S.functor; place = S.place; within = S.within; stays = n_stays _ S.stays }
+
+        goes : Peeling g t (record { height = next; pending = set p.pending u false; waiting = set p.waiting (class t u) rest; went = p.went + 1; total = p.total })
+        goes =
             record {
-              height_size = P.height_size;
-              pending_size = R.pending_size;
-              waiting_size = R.waiting_size;
-              ones = R.ones;
-              waits = R.waits;
+              height_size = length-set p.height c (Some p.went) ∙ P.height_size;
+              pending_size = length-set p.pending u false ∙ P.pending_size;
+              waiting_size = length-set p.waiting c rest ∙ P.waiting_size;
+              waits = waits;
               left_waits = λ k C e. ⊎_elim
-                  (λ m. rw m (omega (arith, R.own)))
-                  (λ m. omega (arith, R.other k m, P.left_waits k C e))
+                  (λ m. not_both _ p.went (rw m at e) n_same)
+                  (λ m. omega (arith, other k m, P.left_waits k C (n_stays k e)))
                   (same_or_other c k);
-              gone_waits = λ k l n. ⊎_elim
-                  (λ m. absurd (n (rw m R.own_left)))
-                  (λ m. R.other k m ∙ P.gone_waits k l n)
+              gone_waits = λ k a l n. n_cases k a n (λ m e. rw m (own ∙ z)) (λ m h. other k m ∙ P.gone_waits k a l h);
+              released = λ v f S. own_free v f (n_stuck v S);
+              low = λ k a l n. n_cases k a n (λ m e. omega (arith, e)) (λ m h. omega (arith, P.low k a l h));
+              apart = n_apart;
+              unused = λ k l n. ⊎_elim
+                  (λ m. absurd (n (rw m (is_class g t T F u known))))
+                  (λ m. n_other k m ∙ P.unused k l n)
                   (same_or_other c k);
-              released = R.free;
-              low = P.low;
-              apart = P.apart;
-              unused = P.unused;
-              lower = P.lower;
-              count = P.count;
-            };
-        risen = omega arith;
-        same = λ e. refl;
-        fewer = R.fewer;
-        stuck = λ e n. absurd (n R.done);
-      }
+              lower = n_lower;
+              table = T;
+              formed = F;
+              total = P.total;
+              count = n_count;
+            }
+
+    -- k is the class as it was read
+    module _ (k rest : ℕ) (e : k ≡ class t u) (r : rest ≡ get_or p.waiting k 0 - 1) where
+      fewer_by_one : rest + 1 ≡ get_or p.waiting (class t u) 0
+      fewer_by_one = omega (arith, r, ap (λ (z : ℕ). get_or p.waiting z 0) e, some_wait)
+
+      read : get_or (set p.waiting k rest) k 0 ≡ rest
+      read = get_or-set_same p.waiting k rest 0 (omega (arith, e, own_low, P.waiting_size))
+
+      pub release_more : (get_or (set p.waiting k rest) k 0 ≡ 0 → ⊥)
+          → Peeling g t (record p { pending = set p.pending u false; waiting = set p.waiting k rest })
+      release_more z = rw e (still_waits rest fewer_by_one (λ q. z (read ∙ q)))
+
+      pub release_last : get_or (set p.waiting k rest) k 0 ≡ 0
+          → Peeling g t (record { height = set p.height k (Some p.went); pending = set p.pending u false; waiting = set p.waiting k rest; went = p.went + 1; total = p.total })
+      release_last z = rw e (goes rest fewer_by_one (sym read ∙ z))

@@ -1,23 +1,27 @@
 -- The peel's start: nodes and classes counted, no class gone, no node released.
-use mathlib.Core.Path.{◌≡◌, sym, ◌∙◌, ap}
-use mathlib.Core.Bool.{cond}
+use mathlib.Core.Path.{◌≡◌, refl, sym, ◌∙◌, ap}
+use mathlib.Core.Bool.{Bool, true, false, cond}
 use mathlib.Core.Logic.{⊎_elim}
 use mathlib.Core.List.{List}
 use Prim.Native.Nat.{ℕ, ◌+◌, ◌≤◌, ◌<◌}
 use native.Mathlib.Omega.{arith}
+use mir.Val.{bool_byte}
 use lib.Dec.{eqb}
 use lib.ListN.{get_or, set, length-set, replicate, length-replicate, get_or-replicate}
 use lib.Seq.{get_or-set_same, get_or-set_other}
 use borrow.Author.Tests.{eq-eqb, ne_eqb}
+use Rattle.std.specs.Prelude.{Option, None}
 use Rattle.base.specs.Sum.{sum_to}
+use Rattle.base.proofs.AbsurdLaws.{true_is_false}
 use Rattle.base.proofs.CaseLaws.{same_or_other}
 use Rattle.base.proofs.SumLaws.{sum_none, sum_more, sum_at, sum_most}
 use Rattle.store.specs.declared.Terms.{Terms}
 use Rattle.solve_classes.specs.Table.{class, member_at, root, Table}
 use Rattle.solve_trace.specs.Nodes.{Formed}
-use Rattle.solve_heights.specs.Peel.{no_height, height_at, left_at}
-use Rattle.solve_heights.specs.Passes.{wait_at, Peeling, Counted}
+use Rattle.solve_heights.specs.Peel.{height_at, stays, left_at}
+use Rattle.solve_heights.specs.Passes.{pending_at, wait_at, Peeling, Counted}
 use Rattle.solve_heights.proofs.CountLaws.{sum_agree}
+use Rattle.solve_heights.proofs.OptionLaws.{not_both}
 use Rattle.solve_heights.proofs.SummandLaws.{wait_in, root_most, class_low}
 
 pub counted_none : (t : List ℕ) → Counted t 0 (replicate 64 0) 0
@@ -27,6 +31,14 @@ counted_none t =
       members = λ c l. get_or-replicate 64 c 0 0 l ∙ sym (sum_none (member_at t c));
       classes = sym (sum_none (root t));
     }
+
+-- a test's reply as a number
+pub root_told : (t : List ℕ) (c u n : ℕ) → c ≡ class t u → n ≡ bool_byte (eqb c u) → n ≡ root t u
+root_told t c u n e f = f ∙ ap (λ (k : ℕ). bool_byte (eqb k u)) e ∙ byte (eqb _ u)
+  where
+    byte : (b : Bool) → bool_byte b ≡ cond b 1 0
+    byte true = refl
+    byte false = refl
 
 pub counted_low : (t : List ℕ) (i : ℕ) (w : List ℕ) (n : ℕ) → Counted t i w n → (c : ℕ) → c < 64 → get_or w c 0 ≤ i
 counted_low t i w n C c l = omega (arith, C.members c l, sum_most (member_at t c) i (λ u k. most u))
@@ -61,40 +73,42 @@ counted_more t i w n m c v C l e a b =
 
 -- no class went, no node is released
 pub peel_start : (g : Terms) (t w : List ℕ) (n : ℕ) → Table t → Formed g → Counted t g.count w n
-    → Peeling g t (replicate 64 no_height) (replicate 64 1) w 0
+    → Peeling g t (record { height = replicate 64 None; pending = replicate 64 true; waiting = w; went = 0; total = n })
 peel_start g t w n T F C =
     record {
-      height_size = length-replicate {A = ℕ} 64 no_height;
-      pending_size = length-replicate {A = ℕ} 64 1;
+      table = T;
+      formed = F;
+      height_size = length-replicate {A = Option ℕ} 64 None;
+      pending_size = length-replicate {A = Bool} 64 true;
       waiting_size = C.size;
-      ones = λ u l. omega (arith, pending u l);
       waits = waits;
       left_waits = λ c D e. omega (
         arith,
         waits c (omega (arith, D.known, F.most)),
-        sum_at (wait_at t (replicate 64 1) c) g.count c D.known,
-        wait_in t (replicate 64 1) c c D.lowest,
-        pending c D.known,
+        sum_at (wait_at t (replicate 64 true) c) g.count c D.known,
+        wait_in t (replicate 64 true) c c D.lowest (pending c D.known),
       );
-      gone_waits = λ c l d. absurd (d (all c l));
-      released = λ u z S. absurd (omega (arith, z, pending u S.functor.known));
-      low = λ c l d. absurd (d (all c l));
-      apart = λ c d l k n. absurd (n (all c l));
+      gone_waits = λ c a l d. not_both _ a (all c l) d;
+      released = λ u z S. true_is_false (sym (pending u S.functor.known) ∙ z);
+      low = λ c a l d. not_both _ a (all c l) d;
+      apart = λ c d a l k e f. not_both _ a (all c l) e;
       unused = λ c l n. all c l;
-      lower = λ u j U k d. absurd (d (all (class t u) (class_low g t T F u U.known)));
-      count = omega (arith, sum_agree (left_at t (replicate 64 no_height)) (root t) g.count (λ c l. each c (omega (arith, F.most))));
+      lower = λ u j a U k d. not_both _ a (all (class t u) (class_low g t T F u U.known)) d;
+      total = C.classes;
+      count = omega (arith, C.classes, sum_agree (left_at t (replicate 64 None)) (root t) g.count (λ c l. each c (omega (arith, F.most))));
     }
   where
-    all : (c : ℕ) → c < 64 → height_at (replicate 64 no_height) c ≡ no_height
-    all c l = get_or-replicate 64 c no_height 0 l
+    all : (c : ℕ) → c < 64 → height_at (replicate 64 None) c ≡ None
+    all c l = get_or-replicate 64 c None None l
 
-    pending : (u : ℕ) → u < g.count → ◌≡◌ {A = ℕ} (get_or (replicate 64 1) u 0) 1
-    pending u l = get_or-replicate 64 u 1 0 (omega (arith, F.most))
+    pending : (u : ℕ) → u < g.count → pending_at (replicate 64 true) u ≡ true
+    pending u l = get_or-replicate 64 u true false (omega (arith, F.most))
 
-    waits : (c : ℕ) → c < 64 → get_or w c 0 ≡ sum_to (wait_at t (replicate 64 1) c) g.count
+    waits : (c : ℕ) → c < 64 → get_or w c 0 ≡ sum_to (wait_at t (replicate 64 true) c) g.count
     waits c l =
         C.members c l
-        ∙ sum_agree (member_at t c) (wait_at t (replicate 64 1) c) g.count (λ u k. ap (λ (z : ℕ). cond (eqb (class t u) c) z 0) (sym (pending u k)))
+        ∙ sum_agree (member_at t c) (wait_at t (replicate 64 true) c) g.count
+        (λ u k. ap (λ (z : Bool). cond (eqb (class t u) c) (cond z 1 0) 0) (sym (pending u k)))
 
-    each : (c : ℕ) → c < 64 → left_at t (replicate 64 no_height) c ≡ root t c
-    each c l = ap (λ (z : ℕ). cond (eqb (class t c) c) (cond (eqb z no_height) 1 0) 0) (all c l)
+    each : (c : ℕ) → c < 64 → left_at t (replicate 64 None) c ≡ root t c
+    each c l = ap (λ (z : Option ℕ). cond (eqb (class t c) c) (stays z) 0) (all c l)

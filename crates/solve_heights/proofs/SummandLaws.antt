@@ -1,44 +1,52 @@
 -- What one node adds to the sums of the peel: to those that its class waits for, to the classes that are left, to all classes; and the
 -- classes of known nodes.
 use mathlib.Core.Path.{◌≡◌, sym, ◌∙◌, ap}
+use mathlib.Core.Bool.{Bool, true, false}
 use mathlib.Core.Logic.{⊎_elim}
 use mathlib.Core.List.{List}
 use Prim.Native.Nat.{ℕ, ◌≤◌, ◌<◌}
 use native.Mathlib.Omega.{arith}
-use lib.ListN.{get_or}
+use lib.ListN.{length, get_or}
 use borrow.Author.Tests.{eq-eqb, ne_eqb}
+use Rattle.std.specs.Prelude.{Option, Some, None}
 use Rattle.base.proofs.CaseLaws.{same_or_other}
 use Rattle.base.proofs.SumLaws.{sum_at, sum_most}
-use Rattle.store.specs.Views.{arity_at, child_at}
+use Rattle.base.proofs.TabLaws.{tab_get_d}
+use Rattle.store.specs.Views.{arity_at, child_at, children_at}
 use Rattle.store.specs.declared.Terms.{Terms}
+use Rattle.store.proofs.ViewLaws.{children_length}
 use Rattle.solve_classes.specs.Table.{class, root, Table}
 use Rattle.solve_classes.proofs.TableLaws.{class_small}
 use Rattle.solve_trace.specs.Nodes.{IsFunctor, Formed}
+use Rattle.solve_heights.proofs.OptionLaws.{none_or_some}
 use Rattle.solve_heights.specs.Nodes.{IsClass, under}
-use Rattle.solve_heights.specs.Peel.{no_height, height_at, left_at, left, classes}
-use Rattle.solve_heights.specs.Passes.{wait_at}
+use Rattle.solve_heights.specs.Peel.{height_at, left_at, left, classes}
+use Rattle.solve_heights.specs.Passes.{pending_at, wait_at}
 
-pub wait_in : (t p : List ℕ) (c u : ℕ) → class t u ≡ c → wait_at t p c u ≡ get_or p u 0
-wait_in t p c u e = rw (eq-eqb _ _ e)
+pub wait_in : (t : List ℕ) (p : List Bool) (c u : ℕ) → class t u ≡ c → pending_at p u ≡ true → wait_at t p c u ≡ 1
+wait_in t p c u e d = rw (eq-eqb _ _ e, d)
 
-pub wait_out : (t p : List ℕ) (c u : ℕ) → (class t u ≡ c → ⊥) → wait_at t p c u ≡ 0
+pub wait_out : (t : List ℕ) (p : List Bool) (c u : ℕ) → (class t u ≡ c → ⊥) → wait_at t p c u ≡ 0
 wait_out t p c u d = rw (ne_eqb _ _ d)
 
-pub left_one : (t h : List ℕ) (c : ℕ) → class t c ≡ c → height_at h c ≡ no_height → left_at t h c ≡ 1
-left_one t h c e q = rw (eq-eqb _ _ e, eq-eqb _ _ q)
+pub wait_done : (t : List ℕ) (p : List Bool) (c u : ℕ) → pending_at p u ≡ false → wait_at t p c u ≡ 0
+wait_done t p c u d = ⊎_elim (λ e. rw (eq-eqb (class t u) c e, d)) (wait_out t p c u) (same_or_other c (class t u))
 
-pub left_other : (t h : List ℕ) (c : ℕ) → (class t c ≡ c → ⊥) → left_at t h c ≡ 0
+pub left_one : (t : List ℕ) (h : List (Option ℕ)) (c : ℕ) → class t c ≡ c → height_at h c ≡ None → left_at t h c ≡ 1
+left_one t h c e q = rw (eq-eqb _ _ e, q)
+
+pub left_other : (t : List ℕ) (h : List (Option ℕ)) (c : ℕ) → (class t c ≡ c → ⊥) → left_at t h c ≡ 0
 left_other t h c d = rw (ne_eqb (class t c) c d)
 
-pub left_gone : (t h : List ℕ) (c : ℕ) → (height_at h c ≡ no_height → ⊥) → left_at t h c ≡ 0
-left_gone t h c d =
+pub left_gone : (t : List ℕ) (h : List (Option ℕ)) (c a : ℕ) → height_at h c ≡ Some a → left_at t h c ≡ 0
+left_gone t h c a d =
     ⊎_elim
-    (λ e. rw (eq-eqb (class t c) c e, ne_eqb (height_at h c) no_height d))
+    (λ e. rw (eq-eqb (class t c) c e, d))
     (left_other t h c)
     (same_or_other c (class t c))
 
 -- what leaves a height alone leaves the count alone
-pub left_same : (t h next : List ℕ) (c : ℕ) → height_at next c ≡ height_at h c → left_at t h c ≡ left_at t next c
+pub left_same : (t : List ℕ) (h next : List (Option ℕ)) (c : ℕ) → height_at next c ≡ height_at h c → left_at t h c ≡ left_at t next c
 left_same t h next c e = rw e
 
 pub root_one : (t : List ℕ) (c : ℕ) → class t c ≡ c → root t c ≡ 1
@@ -66,9 +74,20 @@ module _ (g : Terms) (t : List ℕ) (T : Table t) (F : Formed g) where
   under_low u j U k = class_low (child_at g u j) (omega (arith, F.earlier u j U.known k, U.known))
 
 -- the height of a child's class, read in two steps
-pub through : (t h : List ℕ) {x y c : ℕ} → x ≡ y → c ≡ class t x → height_at h (class t y) ≡ height_at h c
+pub through : (t : List ℕ) (h : List (Option ℕ)) {x y c : ℕ} → x ≡ y → c ≡ class t x → height_at h (class t y) ≡ height_at h c
 through t h p q = ap (λ (z : ℕ). height_at h (class t z)) (sym p) ∙ ap (height_at h) (sym q)
 
 -- every class went
-pub none_left : (g : Terms) (t h : List ℕ) → left g t h ≡ 0 → (c : ℕ) → IsClass g t c → height_at h c ≡ no_height → ⊥
-none_left g t h z c C e = omega (arith, z, sum_at (left_at t h) g.count c C.known, left_one t h c C.lowest e)
+pub none_left : (g : Terms) (t : List ℕ) (h : List (Option ℕ)) → left g t h ≡ 0 → (c : ℕ) → IsClass g t c → (a : ℕ) × (height_at h c ≡ Some a)
+none_left g t h z c C =
+    ⊎_elim
+    (λ e. absurd (omega (arith, z, sum_at (left_at t h) g.count c C.known, left_one t h c C.lowest e)))
+    (λ w. w)
+    (none_or_some (height_at h c))
+
+-- an element of a node's children is a child
+pub nth_child : (g : Terms) (u : ℕ) {xs : List ℕ} (j : ℕ) → xs ≡ children_at g u → j < length xs
+    → (j < arity_at g u) × (get_or xs j 0 ≡ child_at g u j)
+nth_child g u {xs} j e l =
+    let k : j < arity_at g u = omega (arith, l, ap length e, children_length g u) in
+    (k, ap (λ ys. get_or ys j 0) e ∙ tab_get_d (arity_at g u) (child_at g u) j 0 k)

@@ -1,45 +1,41 @@
 -- The peel at work: passes over the nodes, upward and downward in turn. A node is released once its children's classes went, and its
 -- class goes with the last of its nodes.
---   turned      the node that a pass visits at its turn i
---   TurnsTaken  what the first i turns of any pass have done: either a count rose, or every node visited has P
---   Peeling     the peel between two visits: p has 1 for each node that is not released, w how many such nodes a class has
---   Counted     the nodes of each class, and the classes, counted
---   Visited     what a visit of node u does
---   PeelPassed  what the first i turns of a pass of the peel have done
-use Rattle.std.specs.Prelude.{◌≡◌, Bool, cond, List, ℕ, ◌+◌, ◌-◌, ◌≤◌, ◌<◌, eqb, length, get_or}
+--   Peeling   the peel between two visits
+--   Counted   the nodes of each class, and the classes, counted
+--   Released  what a pass in which no class goes leaves each node with: it is released, or stuck
+use Rattle.std.specs.Prelude.{◌≡◌, Bool, true, false, cond, List, ℕ, ◌+◌, ◌<◌, eqb, length, get_or, Some, None}
 use Rattle.store.specs.declared.Terms.{Terms}
 use Rattle.solve_classes.specs.Table.{class, member_at, root, Table}
 use Rattle.base.specs.Sum.{sum_to}
 use Rattle.solve_trace.specs.Nodes.{Formed}
 use Rattle.solve_heights.specs.Nodes.{IsClass}
-use Rattle.solve_heights.specs.Peel.{no_height, height_at, left, classes, Stuck, Lower}
+use Rattle.solve_heights.specs.Peel.{height_at, left, classes, Stuck, Lower}
+use Rattle.solve_heights.specs.declared.Peeler.{Peeler}
 
-abbrev pub turned : ℕ → Bool → ℕ → ℕ
-turned n down i = cond down (n - 1 - i) i
-
--- the count rose from r to m, or every node visited has P
-pub record TurnsTaken (P : ℕ → Type 0) (n : ℕ) (down : Bool) (r i m : ℕ) : Type 0 where
-  pub risen : r ≤ m
-  pub each : m ≡ r → (k : ℕ) → k < i → P (turned n down k)
+-- node u is not released
+abbrev pub pending_at : List Bool → ℕ → Bool
+pending_at p u = get_or p u false
 
 -- what node u adds to those that class c waits for
-abbrev pub wait_at : List ℕ → List ℕ → ℕ → ℕ → ℕ
-wait_at t p c u = cond (eqb (class t u) c) (get_or p u 0) 0
+abbrev pub wait_at : List ℕ → List Bool → ℕ → ℕ → ℕ
+wait_at t p c u = cond (eqb (class t u) c) (cond (pending_at p u) 1 0) 0
 
-pub record Peeling (g : Terms) (t h p w : List ℕ) (went : ℕ) : Type 0 where
-  pub height_size : length h ≡ 64
-  pub pending_size : length p ≡ 64
-  pub waiting_size : length w ≡ 64
-  pub ones : (u : ℕ) → u < g.count → get_or p u 0 ≤ 1
-  pub waits : (c : ℕ) → c < 64 → get_or w c 0 ≡ sum_to (wait_at t p c) g.count
-  pub left_waits : (c : ℕ) → IsClass g t c → height_at h c ≡ no_height → 0 < get_or w c 0
-  pub gone_waits : (c : ℕ) → c < 64 → (height_at h c ≡ no_height → ⊥) → get_or w c 0 ≡ 0
-  pub released : (u : ℕ) → get_or p u 0 ≡ 0 → Stuck g t h u → ⊥
-  pub low : (c : ℕ) → c < 64 → (height_at h c ≡ no_height → ⊥) → height_at h c < went
-  pub apart : (c d : ℕ) → c < 64 → d < 64 → (height_at h c ≡ no_height → ⊥) → height_at h c ≡ height_at h d → c ≡ d
-  pub unused : (c : ℕ) → c < 64 → (IsClass g t c → ⊥) → height_at h c ≡ no_height
-  pub lower : Lower g t h
-  pub count : went + left g t h ≡ classes g t
+pub record Peeling (g : Terms) (t : List ℕ) (p : Peeler) : Type 0 where
+  pub table : Table t
+  pub formed : Formed g
+  pub height_size : length p.height ≡ 64
+  pub pending_size : length p.pending ≡ 64
+  pub waiting_size : length p.waiting ≡ 64
+  pub waits : (c : ℕ) → c < 64 → get_or p.waiting c 0 ≡ sum_to (wait_at t p.pending c) g.count
+  pub left_waits : (c : ℕ) → IsClass g t c → height_at p.height c ≡ None → 0 < get_or p.waiting c 0
+  pub gone_waits : (c a : ℕ) → c < 64 → height_at p.height c ≡ Some a → get_or p.waiting c 0 ≡ 0
+  pub released : (u : ℕ) → pending_at p.pending u ≡ false → Stuck g t p.height u → ⊥
+  pub low : (c a : ℕ) → c < 64 → height_at p.height c ≡ Some a → a < p.went
+  pub apart : (c d a : ℕ) → c < 64 → d < 64 → height_at p.height c ≡ Some a → height_at p.height d ≡ Some a → c ≡ d
+  pub unused : (c : ℕ) → c < 64 → (IsClass g t c → ⊥) → height_at p.height c ≡ None
+  pub lower : Lower g t p.height
+  pub total : p.total ≡ classes g t
+  pub count : p.went + left g t p.height ≡ p.total
 
 -- the first i nodes are counted: w has how many nodes each class has, n is how many classes there are
 pub record Counted (t : List ℕ) (i : ℕ) (w : List ℕ) (n : ℕ) : Type 0 where
@@ -47,21 +43,6 @@ pub record Counted (t : List ℕ) (i : ℕ) (w : List ℕ) (n : ℕ) : Type 0 wh
   pub members : (c : ℕ) → c < 64 → get_or w c 0 ≡ sum_to (member_at t c) i
   pub classes : n ≡ sum_to (root t) i
 
--- what a visit of node u asks
-pub record Visiting (g : Terms) (t h p w : List ℕ) (went u : ℕ) : Type 0 where
-  pub table : Table t
-  pub formed : Formed g
-  pub known : u < g.count
-  pub peeling : Peeling g t h p w went
-
-pub record Visited (g : Terms) (t h p : List ℕ) (went u : ℕ) (next q x : List ℕ) (gone : ℕ) : Type 0 where
-  pub peeling : Peeling g t next q x gone
-  pub risen : went ≤ gone
-  pub same : gone ≡ went → next ≡ h
-  pub fewer : (v : ℕ) → get_or p v 0 ≡ 0 → get_or q v 0 ≡ 0
-  pub stuck : gone ≡ went → (get_or q u 0 ≡ 0 → ⊥) → Stuck g t next u
-
--- either a class went, or every visited node that isn't released is stuck
-pub record PeelPassed (g : Terms) (t : List ℕ) (down : Bool) (went i : ℕ) (h p w : List ℕ) (gone : ℕ) : Type 0 where
-  pub peeling : Peeling g t h p w gone
-  pub turns : TurnsTaken (λ v. (get_or p v 0 ≡ 0 → ⊥) → Stuck g t h v) g.count down went i gone
+-- node u is released, or it is stuck
+abbrev pub Released : Terms → List ℕ → Peeler → ℕ → Type 0
+Released g t p u = pending_at p.pending u ≡ true → Stuck g t p.height u

@@ -1,5 +1,5 @@
 -- Laws of the search downward.
---   ReachLaws   steps and passes of the search
+--   ReachLaws   one step down; the search's start and end
 --   SearchLaws  what the search says of a state whose closure the table is; cycles
 pub mod ReachLaws
 pub mod SearchLaws

@@ -1,27 +1,33 @@
 // The classes strictly below a node, and a node on a cycle.
 #![tactic(auto)]
 
-ghost use Rattle.std.specs.Prelude.{ℕ, ◌+◌, ◌*◌, ◌≤◌, ◌<◌, get_or, replicate, ◌≡◌};
+ghost use Rattle.std.specs.Prelude.{ℕ, ◌<◌, ◌≤◌, ◌≡◌};
+ghost use Rattle.base.specs.Tells.{Tells};
 ghost use Rattle.graph.specs.State.{State};
 ghost use Rattle.graph.specs.Closure.{Cycle};
-ghost use Rattle.store.specs.Views.{terms};
 ghost use Rattle.solve_classes.specs.Table.{Table};
 ghost use Rattle.solve_classes.specs.Exact.{Exact};
-ghost use Rattle.solve_trace.specs.Nodes.{Nodes, Formed};
+ghost use Rattle.solve_trace.specs.Nodes.{Nodes, IsFunctor, Formed};
 ghost use Rattle.solve_heights.specs.Peel.{Peeled};
-ghost use Rattle.solve_reach.specs.Search.{Reached, Reaching, Entered, Expanded, SearchPassed, Idle, MayLeadBack, LeadsBack};
-ghost use Rattle.store.specs.declared.Terms.{Terms};
+ghost use Rattle.solve_reach.specs.Search.{Source, Explored, Reached, Reaching, MayLeadBack, LeadsBack};
 
 use solve_heights::Heights;
+use solve_heights::passes::{self, Visitor};
+use store::Terms;
 
-// How each class below a node was reached, by its root: the parent of the step down into it, the place, the child there, and a level
-// that falls on the way up. Level 0: not reached.
+// A step down into a class: the parent, the place, counted from 1, the child there, and a level that falls on the way up.
+#[derive(Clone, Copy)]
+pub struct Down {
+    pub parent: u8,
+    pub place: u8,
+    pub into: u8,
+    pub level: u8,
+}
+
+// How each class below a node was reached, by its root.
 #[derive(Clone, Copy)]
 pub struct Search {
-    pub parent: [u8; 64],
-    pub place: [u8; 64],
-    pub into: [u8; 64],
-    pub level: [u8; 64],
+    pub reached: [Option<Down>; 64],
 }
 
 // A node, and the search from it that led back to its class.
@@ -31,280 +37,118 @@ pub struct Circle {
     pub search: Search,
 }
 
-// Looks at the child of `p` at place `j`: where its class was not reached, it is now. Hands back how many were.
-fn enter(
-    table: &[u8; 64],
-    parent: &mut [u8; 64],
-    place: &mut [u8; 64],
-    into: &mut [u8; 64],
-    level: &mut [u8; 64],
-    reached: u8,
-    p: usize,
-    j: usize,
-    child: &[u8; 256],
-) -> u8
-    requires table { Table table.now }
-    requires p_bound { (p < 64) × (j < 4) × (reached < 255) }
-    requires j_bound { get_or child.now (4 * p + j) 0 < 64 }
-    ensures { Entered table.now child.now p j
-        parent.old place.old into.old level.old reached
-        parent.new place.new into.new level.new result }
-{
-    let k = child[4 * p + j];
-    let d = base::wide(table[base::wide(k)]);
-    if level[d] != 0 {
-        return reached;
-    }
-    parent[d] = p as u8;
-    place[d] = (j + 1) as u8;
-    into[d] = k;
-    level[d] = reached + 1;
-    reached + 1
+// The search at work: which classes were reached from the node `start`, and how many.
+#[derive(Clone, Copy)]
+struct Searcher {
+    search: Search,
+    start: usize,
+    count: u8,
 }
 
-// Whether steps down from node `p` don't count: it has none, or its class was not reached.
-fn idle(
-    table: &[u8; 64],
-    level: &[u8; 64],
-    u: usize,
-    p: usize,
-    n: usize,
-    kind: &[u8; 64],
-    symbol: &[u16; 64],
-    arity: &[u8; 64],
-    child: &[u8; 256],
-) -> bool
-    requires table { Table table.now }
-    requires u_bound { (u < 64) × (p < n) × (n ≤ 64) }
-    ensures { Idle (terms n kind.now symbol.now arity.now child.now) table.now
-        level.now u p result }
-{
-    if kind[p] != 1 {
-        return true;
+impl Searcher {
+    // Whether steps down from node `p` count: it has some, and its class is the start's, or was reached.
+    fn is_source(&self, table: &[u8; 64], t: &Terms, p: usize) -> bool
+        requires reaching { Reaching t.now table.now self.now }
+        requires known { p < t.now.count }
+        ensures { Tells (IsFunctor t.now p × Source table.now self.now.search self.now.start p) result }
+    {
+        let c = table[p];
+        t.is_functor(p) && (c == table[self.start] || self.search.reached[usize::from(c)].is_some())
     }
-    let c = base::wide(table[p]);
-    if c == base::wide(table[u]) {
-        return false;
-    }
-    if level[c] == 0 {
-        return true;
-    }
-    false
 }
 
-// Looks at every child of node `p`, where steps down from it count.
-fn expand(
-    table: &[u8; 64],
-    parent: &mut [u8; 64],
-    place: &mut [u8; 64],
-    into: &mut [u8; 64],
-    level: &mut [u8; 64],
-    reached: u8,
-    u: usize,
-    p: usize,
-    n: usize,
-    kind: &[u8; 64],
-    symbol: &[u16; 64],
-    arity: &[u8; 64],
-    child: &[u8; 256],
-) -> u8
-    requires table { Table table.now }
-    requires formed { let g : Terms = terms n kind.now symbol.now arity.now child.now in Formed g }
-    requires u_lt_n { (u < n) × (p < n) }
-    requires reaching { let g : Terms = terms n kind.now symbol.now arity.now child.now in Reaching g table.now parent.old place.old into.old level.old u reached }
-    ensures { let g : Terms = terms n kind.now symbol.now arity.now child.now in Expanded g table.now
-        level.old u reached p parent.new place.new into.new level.new result }
-{
-    if idle(table, level, u, p, n, kind, symbol, arity, child) {
-        return reached;
-    }
-    let k = base::wide(arity[p]);
-    let mut r = reached;
-    let mut j: usize = 0;
-    while j < k {
-        r = enter(table, parent, place, into, level, r, p, j, child);
-        j += 1;
-    }
-    r
-}
+impl Visitor for Searcher {
+    ghost between = { Reaching };
 
-// Visits every node once, downward or upward. A class that is reached counts for the nodes visited after it.
-fn pass(
-    table: &[u8; 64],
-    parent: &mut [u8; 64],
-    place: &mut [u8; 64],
-    into: &mut [u8; 64],
-    level: &mut [u8; 64],
-    reached: u8,
-    u: usize,
-    down: bool,
-    n: usize,
-    kind: &[u8; 64],
-    symbol: &[u16; 64],
-    arity: &[u8; 64],
-    child: &[u8; 256],
-) -> u8
-    requires table { Table table.now }
-    requires formed { let g : Terms = terms n kind.now symbol.now arity.now child.now in Formed g }
-    requires u_lt_n { u < n }
-    requires reaching { let g : Terms = terms n kind.now symbol.now arity.now child.now in Reaching g table.now parent.old place.old into.old level.old u reached }
-    ensures { let g : Terms = terms n kind.now symbol.now arity.now child.now in SearchPassed g table.now
-        u down reached n parent.new place.new into.new level.new result }
-{
-    let mut r = reached;
-    let mut i: usize = 0;
-    while i < n {
-        let p = solve_heights::turn(n, down, i);
-        r = expand(
-            table, parent, place, into, level, r, u, p, n, kind, symbol, arity, child,
-        );
-        i += 1;
-    }
-    r
-}
+    ghost counted = { λ w. w.count };
 
-// Passes until one reaches no class.
-fn rounds(
-    table: &[u8; 64],
-    parent: &mut [u8; 64],
-    place: &mut [u8; 64],
-    into: &mut [u8; 64],
-    level: &mut [u8; 64],
-    u: usize,
-    n: usize,
-    kind: &[u8; 64],
-    symbol: &[u16; 64],
-    arity: &[u8; 64],
-    child: &[u8; 256],
-)
-    requires table { Table table.now }
-    requires formed { let g : Terms = terms n kind.now symbol.now arity.now child.now in Formed g }
-    requires u_lt_n { u < n }
-    requires reaching { let g : Terms = terms n kind.now symbol.now arity.now child.now in Reaching g table.now parent.old place.old into.old level.old u 0 }
-    ensures { let g : Terms = terms n kind.now symbol.now arity.now child.now in Reached g table.now
-        parent.new place.new into.new level.new u }
-{
-    let mut r: u8 = 0;
-    let mut down = true;
-    loop {
-        let more = pass(
-            table, parent, place, into, level, r, u, down, n, kind, symbol, arity, child,
-        );
-        if more == r {
+    ghost closed = { λ g t w p. Explored g t w.search w.start p };
+
+    ghost fixed = { λ w. w.start };
+
+    fn counted(&self) -> u8 {
+        self.count
+    }
+
+    // Looks at every child of node `p`, where steps down from it count. A class that is reached counts for the nodes visited after it.
+    fn visit(&mut self, table: &[u8; 64], t: &Terms, p: usize) {
+        if !self.is_source(table, t, p) {
             return;
         }
-        r = more;
-        down = !down;
+        for (j, x) in t.children(p).iter().enumerate() {
+            let d = usize::from(table[usize::from(*x)]);
+            if self.search.reached[d].is_some() {
+                continue;
+            }
+            self.count += 1;
+            self.search.reached[d] = Some(Down {
+                parent: p as u8,
+                place: j as u8 + 1,
+                into: *x,
+                level: self.count,
+            });
+        }
     }
 }
 
 // The classes strictly below node `u`, each with a step down into it and a level; the way up from it goes by lower levels to u's class,
 // which counts as reached only where a way down leads back to it.
-pub fn reach<'a>(
-    table: [u8; 64],
-    u: u8,
-    n: usize,
-    kind: &'a [u8; 64],
-    symbol: &'a [u16; 64],
-    arity: &'a [u8; 64],
-    child: &'a [u8; 256],
-) -> Search
+pub fn reach(table: [u8; 64], t: &Terms, u: u8) -> Search
     requires table { Table table }
-    requires formed { let g : Terms = terms n kind.now symbol.now arity.now child.now in Formed g }
-    requires u_lt_n { u < n }
-    ensures { let g : Terms = terms n kind.now symbol.now arity.now child.now in Reached g table result.parent result.place result.into result.level u }
+    requires formed { Formed t.now }
+    requires known { u < t.now.count }
+    ensures { Reached t.now table result u }
 {
-    let mut parent = [0u8; 64];
-    let mut place = [0u8; 64];
-    let mut into = [0u8; 64];
-    let mut level = [0u8; 64];
-    rounds(
-        &table,
-        &mut parent,
-        &mut place,
-        &mut into,
-        &mut level,
-        base::wide(u),
-        n,
-        kind,
-        symbol,
-        arity,
-        child,
-    );
-    Search {
-        parent,
-        place,
-        into,
-        level,
-    }
+    let mut w = Searcher {
+        search: Search {
+            reached: [None; 64],
+        },
+        start: usize::from(u),
+        count: 0,
+    };
+    passes::run(&mut w, &table, t, 64, true);
+    w.search
 }
 
-fn nothing_reached() -> Search
-    ensures { result.level ≡ replicate 64 0 }
-{
-    Search {
-        parent: [0; 64],
-        place: [0; 64],
-        into: [0; 64],
-        level: [0; 64],
-    }
-}
-
-// The search from node `u`, where it may lead back: a variable isn't searched from, nor a class that the peel took.
-fn search_from<'a>(
-    table: [u8; 64],
-    height: &[u8; 64],
-    u: usize,
-    n: usize,
-    kind: &'a [u8; 64],
-    symbol: &'a [u16; 64],
-    arity: &'a [u8; 64],
-    child: &'a [u8; 256],
-) -> Search
+// The search from node `u`, where it leads back. A variable isn't searched from, nor a class that the peel took.
+fn search_back(table: [u8; 64], heights: &Heights, t: &Terms, u: usize) -> Option<Search>
     requires table { Table table }
-    requires formed { let g : Terms = terms n kind.now symbol.now arity.now child.now in Formed g }
-    requires by_index { let g : Terms = terms n kind.now symbol.now arity.now child.now in (left : ℕ) × Peeled g table height.now left }
-    requires u_lt_n { u < n }
-    ensures { let g : Terms = terms n kind.now symbol.now arity.now child.now in MayLeadBack g table u result.parent result.place result.into result.level }
+    requires formed { Formed t.now }
+    requires peeled { Peeled t.now table heights.now }
+    requires known { u < t.now.count }
+    ensures { MayLeadBack t.now table u result }
 {
-    if kind[u] != 1 {
-        return nothing_reached();
+    let c = usize::from(table[u]);
+    if !t.is_functor(u) || heights.height[c].is_some() {
+        return None;
     }
-    if height[base::wide(table[u])] != 255 {
-        return nothing_reached();
+    let search = reach(table, t, u as u8);
+    if search.reached[c].is_some() {
+        Some(search)
+    } else {
+        None
     }
-    reach(table, u as u8, n, kind, symbol, arity, child)
 }
 
 // A node below itself, where the peel left something.
-pub fn find_cycle<'a>(
-    table: [u8; 64],
-    heights: Heights,
-    n: usize,
-    kind: &'a [u8; 64],
-    symbol: &'a [u16; 64],
-    arity: &'a [u8; 64],
-    child: &'a [u8; 256],
-) -> Circle
+pub fn find_cycle(table: [u8; 64], heights: &Heights, t: &Terms) -> Circle
     requires table { Table table }
-    requires formed { let g : Terms = terms n kind.now symbol.now arity.now child.now in Formed g }
-    requires peeled { let g : Terms = terms n kind.now symbol.now arity.now child.now in Peeled g table heights.height heights.left }
-    ensures { let g : Terms = terms n kind.now symbol.now arity.now child.now in (s : State) → Nodes g s → Exact s table → Cycle s
-        → LeadsBack g table result.node result.search.parent result.search.place result.search.into result.search.level }
+    requires formed { Formed t.now }
+    requires peeled { Peeled t.now table heights.now }
+    ensures { (s : State) → Nodes t.now s → Exact s table → Cycle s → LeadsBack t.now table result.node result.search }
 {
-    let mut u: usize = 0;
-    while u < n {
-        let s = search_from(table, &heights.height, u, n, kind, symbol, arity, child);
-        if s.level[base::wide(table[u])] != 0 {
+    for u in 0..t.count {
+        if let Some(search) = search_back(table, heights, t, u) {
             return Circle {
                 node: u as u8,
-                search: s,
+                search,
             };
         }
-        u += 1;
     }
     Circle {
         node: 0,
-        search: nothing_reached(),
+        search: Search {
+            reached: [None; 64],
+        },
     }
 }

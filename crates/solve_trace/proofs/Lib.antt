@@ -1,13 +1,13 @@
 -- Laws of traces.
---   PackingLaws  an entry of two nodes and a place is read back as it was made
 --   NodeLaws    functor nodes of the state that arrays hold
 --   TraceLaws   what a trace joins stands in the closure; at most 63 entries
+--   LoopLaws    two slices gone over side by side
 --   StepLaws    steps that extend a trace, put together
---   ReasonLaws  the reasons that arrays give
+--   ReasonLaws  the reasons that nodes and equations give
 --   ReplayLaws  a trace replayed entry by entry
-pub mod PackingLaws
 pub mod NodeLaws
 pub mod TraceLaws
+pub mod LoopLaws
 pub mod StepLaws
 pub mod ReasonLaws
 pub mod ReplayLaws

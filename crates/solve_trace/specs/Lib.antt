@@ -1,5 +1,4 @@
 -- Traces of merges, and the steps that extend them.
-pub mod Packing
 pub mod Trace
 pub mod Nodes
 pub mod Steps

@@ -1,15 +1,16 @@
--- What the solver asks of nodes and equations in lent arrays. `TermsShape` of store gives `Formed`.
+-- What the solver asks of nodes and equations. `TermsShape` of store gives `Formed`.
 --   IsFunctor      node u is known, and a functor node
 --   Formed         nodes and children within the limits, each child an earlier node, as many for each node of a symbol
 --   Alike          equal labels, read off the arrays
---   EquationEnds   the equations of a state have the ends that two arrays have
-use Rattle.std.specs.Prelude.{◌≡◌, List, ℕ, ◌≤◌, ◌<◌, get_or}
+--   EquationEnds   the equations of a state have the ends that the arrays have
+use Rattle.std.specs.Prelude.{◌≡◌, ℕ, ◌≤◌, ◌<◌, get_or}
 use Rattle.std.proofs.Math.Option.{some}
 use Rattle.std.proofs.Math.ListN.{get_elem?}
 use Rattle.graph.specs.Limits.{node_limit, child_limit}
 use Rattle.graph.specs.State.{Equation, State, EqualLabels, OneArity}
 use Rattle.store.specs.Views.{kind_at, symbol_at, arity_at, child_at, nodes_of}
 use Rattle.store.specs.declared.Terms.{Terms}
+use Rattle.store.specs.declared.Equations.{Equations}
 
 -- the state's nodes are those of the arrays
 abbrev pub Nodes : Terms → State → Type 0
@@ -28,9 +29,9 @@ pub record Formed (g : Terms) : Type 0 where
 abbrev pub Alike : Terms → ℕ → ℕ → Type 0
 Alike g u v = EqualLabels (symbol_at g u) (symbol_at g v)
 
--- the state's equations have, at their first m places, the ends that the arrays have there
-pub record EquationEnds (m : ℕ) (left right : List ℕ) (s : State) : Type 0 where
+-- the state's equations have, at their first places, the ends that the arrays have there
+pub record EquationEnds (e : Equations) (s : State) : Type 0 where
   pub at : ℕ → Equation
-  pub found : (k : ℕ) → k < m → get_elem? s.equations k ≡ some (at k)
-  pub lefts : (k : ℕ) → k < m → (at k).left ≡ get_or left k 0
-  pub rights : (k : ℕ) → k < m → (at k).right ≡ get_or right k 0
+  pub found : (k : ℕ) → k < e.count → get_elem? s.equations k ≡ some (at k)
+  pub lefts : (k : ℕ) → k < e.count → (at k).left ≡ get_or e.left k 0
+  pub rights : (k : ℕ) → k < e.count → (at k).right ≡ get_or e.right k 0

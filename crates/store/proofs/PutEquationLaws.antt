@@ -12,7 +12,7 @@ use Rattle.graph.specs.Limits.{equation_limit}
 use Rattle.graph.specs.State.{equation_of, name_held}
 use Rattle.base.proofs.AbsurdLaws.{true_is_false}
 use Rattle.base.proofs.TabLaws.{tab_put}
-use Rattle.store.specs.Views.{equations, equation_at, equations_of}
+use Rattle.store.specs.Views.{equation_at, equations_of}
 use Rattle.store.specs.Shape.{EquationsShape}
 use Rattle.store.specs.Operations.{with_equation, PutsEquation}
 use Rattle.store.specs.declared.Equations.{Equations}
@@ -62,7 +62,5 @@ module _ (e : Equations) (n u v : ℕ) (F : Full e) (room : e.count < equation_l
       new_name : (i : ℕ) → i < e.count → get_or e.name i 0 ≡ n → ⊥
       new_name i h q = true_is_false (sym (held_at n e.count (equation_at e) i h q) ∙ unheld)
 
-  -- the struct by the places that were stored to
-  pub puts_equation : (i j k : ℕ) → i ≡ e.count → j ≡ e.count → k ≡ e.count
-      → PutsEquation e n u v (equations (e.count + 1) (set e.name i n) (set e.left j u) (set e.right k v))
-  puts_equation i j k p q r = rw (p, q, r) (record { exact = refl; count = refl; held = equation_list; shape = equation_shape })
+  pub puts_equation : PutsEquation e n u v (with_equation e n u v)
+  puts_equation = record { exact = refl; count = refl; held = equation_list; shape = equation_shape }

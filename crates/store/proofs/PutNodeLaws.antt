@@ -12,7 +12,7 @@ use Rattle.graph.specs.State.{variable, functor, OneArity}
 use Rattle.graph.proofs.ArityLaws.{one_arity_declared}
 use Rattle.base.specs.Tab.{tab}
 use Rattle.base.proofs.TabLaws.{tab_same, tab_put, tab_list}
-use Rattle.store.specs.Views.{terms, kind_at, symbol_at, arity_at, child_at, children_at, node_at, nodes_of}
+use Rattle.store.specs.Views.{kind_at, symbol_at, arity_at, child_at, children_at, node_at, nodes_of}
 use Rattle.store.specs.Shape.{TermsShape}
 use Rattle.store.specs.Operations.{with_variable, with_functor, Room, PutsNode}
 use Rattle.store.specs.declared.Terms.{Terms}
@@ -51,11 +51,8 @@ module _ (t : Terms) (room : t.count < length t.kind) where
         one_arity = subst OneArity (sym variable_nodes) (one_arity_declared (nodes_of t) variable refl s.one_arity);
       }
 
-  -- the struct by what was stored: each value is a fact of its own
-  pub puts_variable : t.count < node_limit → (k : ℕ) → k ≡ 0
-      → PutsNode t variable (with_variable t) (terms (t.count + 1) (set t.kind t.count k) t.symbol t.arity t.child)
-  puts_variable h k e =
-      rw e (record { exact = refl; count = refl; nodes = λ s. variable_nodes; shape = variable_shape h })
+  pub puts_variable : t.count < node_limit → PutsNode t variable (with_variable t) (with_variable t)
+  puts_variable h = record { exact = refl; count = refl; nodes = λ s. variable_nodes; shape = variable_shape h }
 
 -- ---- values of a paste
 
@@ -188,9 +185,6 @@ module _ (t : Terms) (f : ℕ) (cs : List ℕ) (S : TermsShape t) (R : Room t f 
           let v : (symbol_at t u ≡ 0) × (arity_at t u ≡ 0) = S.variables u l (sym (kind_other u d) ∙ e) in
           (symbol_other u d ∙ v.0, arity_other u d ∙ v.1)
 
-pub puts_functor : (t : Terms) (f : ℕ) (cs : List ℕ) → Room t f cs
-    → (k : ℕ) → k ≡ 1 → (a : ℕ) → a ≡ length cs → (child : List ℕ) → child ≡ paste t.child (4 * t.count) cs (length cs)
-    → PutsNode t (functor f cs) (with_functor t f cs)
-    (terms (t.count + 1) (set t.kind t.count k) (set t.symbol t.count f) (set t.arity t.count a) child)
-puts_functor t f cs R k ek a ea child ec =
-    rw (ek, ea, ec) (record { exact = refl; count = refl; nodes = λ S. functor_nodes t f cs S R; shape = λ S. functor_shape t f cs S R })
+pub puts_functor : (t : Terms) (f : ℕ) (cs : List ℕ) → Room t f cs → PutsNode t (functor f cs) (with_functor t f cs) (with_functor t f cs)
+puts_functor t f cs R =
+    record { exact = refl; count = refl; nodes = λ S. functor_nodes t f cs S R; shape = λ S. functor_shape t f cs S R }

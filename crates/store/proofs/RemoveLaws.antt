@@ -10,17 +10,18 @@ use lib.Dec.{eqb, ltb}
 use lib.ListN.{length, get_or, set, length-set, get_or-eq_default}
 use lib.Seq.{get_or-set_same, get_or-set_other, ext_get_or}
 use borrow.Author.Tests.{eq-eqb, ne_eqb, lt-ltb, le-ltb}
+use Rattle.std.specs.List.{SameBelow, CopiedTo}
 use Rattle.graph.specs.Limits.{equation_limit}
 use Rattle.graph.specs.State.{Equation, name_held}
 use Rattle.graph.specs.Book.{removed}
 use Rattle.base.specs.Tab.{tab}
 use Rattle.base.proofs.AbsurdLaws.{true_is_false}
 use Rattle.base.proofs.TabLaws.{tab_length, tab_get_d, tab_same}
-use Rattle.store.specs.Views.{equations, equation_at, equations_of}
+use Rattle.store.specs.Views.{equation_at, equations_of}
 use Rattle.store.specs.Shape.{EquationsShape}
 use Rattle.store.specs.Operations.{First, skip, closed, without_place, Removes}
 use Rattle.store.specs.declared.Equations.{Equations}
-use Rattle.base.proofs.CaseLaws.{below_or_from}
+use Rattle.base.proofs.CaseLaws.{below_or_from, same_or_other}
 
 -- ---- one place taken out of an array
 
@@ -43,61 +44,43 @@ skip_rises k i j h =
     (λ p. omega (arith, skip_after k i p, skip_after k j (omega arith)))
     (below_or_from k i)
 
-pub closed_length : (k : ℕ) (l : List ℕ) → length (closed k l) ≡ length l
-unfolding closed
-closed_length k l = tab_length (length l) (λ i. get_or l (skip k i) 0)
+module _ {A : Type 0} (z : A) (k : ℕ) (l : List A) where
+  pub closed_length : length (closed z k l) ≡ length l
+  unfolding closed
+  closed_length = tab_length (length l) (λ i. get_or l (skip k i) z)
 
-pub closed_at : (k : ℕ) (l : List ℕ) (i : ℕ) → get_or (closed k l) i 0 ≡ get_or l (skip k i) 0
-unfolding closed
-closed_at k l i =
-    ⊎_elim
-    (λ h. tab_get_d (length l) (λ j. get_or l (skip k j) 0) i 0 h)
-    (λ h.
-    get_or-eq_default (closed k l) 0 (omega (arith, closed_length k l))
-    ∙ sym (get_or-eq_default l 0 (omega (arith, skip_from k i))))
-    (below_or_from (length l) i)
+  pub closed_at : (i : ℕ) → get_or (closed z k l) i z ≡ get_or l (skip k i) z
+  unfolding closed
+  closed_at i =
+      ⊎_elim
+      (λ h. tab_get_d (length l) (λ j. get_or l (skip k j) z) i z h)
+      (λ h.
+      get_or-eq_default (closed z k l) z (omega (arith, closed_length))
+      ∙ sym (get_or-eq_default l z (omega (arith, skip_from k i))))
+      (below_or_from (length l) i)
 
--- the array after the elements at k to j - 1 were moved
-pub record Shifted (l r : List ℕ) (k j : ℕ) : Type 0 where
-  pub size : length r ≡ length l
-  pub moved : (i : ℕ) → i < j → get_or r i 0 ≡ get_or l (skip k i) 0
-  pub rest : (i : ℕ) → j ≤ i → get_or r i 0 ≡ get_or l i 0
-
-pub shifted_none : (l : List ℕ) (k : ℕ) → Shifted l l k k
-shifted_none l k =
-    record { size = refl; moved = λ i h. ap (λ (j : ℕ). get_or l j 0) (sym (skip_before k i h)); rest = λ i h. refl }
-
--- what stood at x = j + 1 goes to j
-pub shifted_more : (l r : List ℕ) (k j x : ℕ) → x ≡ j + 1 → k ≤ j → j < length l → Shifted l r k j → Shifted l (set r j (get_or r x 0)) k (j + 1)
-shifted_more l r k j x next h g s = record {
-  size = length-set r j (get_or r x 0) ∙ s.size;
-  moved = λ i p. ⊎_elim (λ e. here i e) (λ q. get_or-set_other r j i (get_or r x 0) 0 (λ e. omega arith) ∙ s.moved i q) (eq-or-lt_of_le (le_of_suc-le-suc (omega (arith, p))));
-  rest = λ i p. get_or-set_other r j i (get_or r x 0) 0 (λ e. omega arith) ∙ s.rest i (omega arith);
-}
-  where
-    here : (i : ℕ) → i ≡ j → get_or (set r j (get_or r x 0)) i 0 ≡ get_or l (skip k i) 0
-    here i e =
-        let q : x ≡ skip k i = omega (arith, skip_after k i (omega arith)) in
-        ap (λ (y : ℕ). get_or (set r j (get_or r x 0)) y 0) e
-        ∙ get_or-set_same r j (get_or r x 0) 0 (omega (arith, s.size))
-        ∙ s.rest x (omega arith)
-        ∙ ap (λ (y : ℕ). get_or l y 0) q
-
-pub shifted_all : (l r : List ℕ) (k m v : ℕ) → v ≡ 0 → k ≤ m → length l ≡ m + 1 → Shifted l r k m → set r m v ≡ closed k l
-shifted_all l r k m v zero-last h g s =
-    ext_get_or 0 (set r m v) (closed k l) (length-set r m v ∙ s.size ∙ sym (closed_length k l))
-    (λ i p. at i (omega (arith, p, length-set r m v, s.size)) ∙ sym (closed_at k l i))
-  where
-    at : (i : ℕ) → i < m + 1 → get_or (set r m v) i 0 ≡ get_or l (skip k i) 0
-    at i p =
-        ⊎_elim
-        (λ e.
-        ap (λ (x : ℕ). get_or (set r m v) x 0) e
-        ∙ get_or-set_same r m v 0 (omega (arith, s.size))
-        ∙ zero-last
-        ∙ sym (get_or-eq_default l 0 (omega (arith, skip_after k i (omega arith)))))
-        (λ q. get_or-set_other r m i v 0 (λ e. omega arith) ∙ s.moved i q)
-        (eq-or-lt_of_le (le_of_suc-le-suc (omega (arith, p))))
+  -- the elements after k copied one place down, and z stored at the last place, m
+  pub closed_copy : (r : List A) (m : ℕ) → k < length l → m ≡ length l - 1 → length r ≡ length l → SameBelow l r k
+      → CopiedTo l r (k + 1) k (length l - (k + 1)) → set r m z ≡ closed z k l
+  closed_copy r m h e s below after =
+      ext_get_or z (set r m z) (closed z k l) (length-set r m z ∙ s ∙ sym closed_length)
+      (λ i p. at i (omega (arith, p, length-set r m z)) ∙ sym (closed_at i))
+    where
+      at : (i : ℕ) → i < length l → get_or (set r m z) i z ≡ get_or l (skip k i) z
+      at i p =
+          ⊎_elim
+          (λ q.
+          ap (λ (x : ℕ). get_or (set r m z) x z) q
+          ∙ get_or-set_same r m z z (omega arith)
+          ∙ sym (get_or-eq_default l z (omega (arith, skip_after k i (omega arith)))))
+          (λ d. get_or-set_other r m i z z d ∙ ⊎_elim
+          (λ q. below i z q ∙ ap (λ (x : ℕ). get_or l x z) (sym (skip_before k i q)))
+          (λ q. let w : i < m = omega (arith, lt_of_not i d) in after i z q (omega arith) ∙ ap (λ (x : ℕ). get_or l x z) (omega (arith, skip_after k i q)))
+          (below_or_from k i))
+          (same_or_other m i)
+        where
+          lt_of_not : (i : ℕ) → (i ≡ m → ⊥) → i < length l → i < m
+          lt_of_not i d p = ⊎_elim (λ q. absurd (d q)) (λ q. q) (eq-or-lt_of_le (omega (arith, p)))
 
 -- ---- names
 
@@ -163,22 +146,22 @@ first_one l n x j k a b =
 
 module _ (e : Equations) (k : ℕ) (room : k < e.count) where
   pub equation_after : (i : ℕ) → equation_at (without_place k e) i ≡ equation_at e (skip k i)
-  equation_after i = rw (closed_at k e.name i, closed_at k e.left i, closed_at k e.right i)
+  equation_after i = rw (closed_at 0 k e.name i, closed_at 0 k e.left i, closed_at 0 k e.right i)
 
   pub shape_after : (m : ℕ) → EquationsShape m e → EquationsShape m (without_place k e)
   shape_after m s = record {
-    name_size = closed_length k e.name ∙ s.name_size;
-    left_size = closed_length k e.left ∙ s.left_size;
-    right_size = closed_length k e.right ∙ s.right_size;
+    name_size = closed_length 0 k e.name ∙ s.name_size;
+    left_size = closed_length 0 k e.left ∙ s.left_size;
+    right_size = closed_length 0 k e.right ∙ s.right_size;
     few = omega (arith, s.few);
     lefts = λ i h. rw closed_at (s.lefts (skip k i) (skip_below k i e.count room h));
     rights = λ i h. rw closed_at (s.rights (skip k i) (skip_below k i e.count room h));
     distinct = λ i j l h q.
         s.distinct (skip k i) (skip k j) (skip_rises k i j l) (skip_below k j e.count room h)
-        (sym (closed_at k e.name i) ∙ q ∙ closed_at k e.name j);
-    unused_names = λ i h l. closed_at k e.name i ∙ unused e.name s.name_size s.unused_names i h l;
-    unused_lefts = λ i h l. closed_at k e.left i ∙ unused e.left s.left_size s.unused_lefts i h l;
-    unused_rights = λ i h l. closed_at k e.right i ∙ unused e.right s.right_size s.unused_rights i h l;
+        (sym (closed_at 0 k e.name i) ∙ q ∙ closed_at 0 k e.name j);
+    unused_names = λ i h l. closed_at 0 k e.name i ∙ unused e.name s.name_size s.unused_names i h l;
+    unused_lefts = λ i h l. closed_at 0 k e.left i ∙ unused e.left s.left_size s.unused_lefts i h l;
+    unused_rights = λ i h l. closed_at 0 k e.right i ∙ unused e.right s.right_size s.unused_rights i h l;
   }
     where
       -- past the last equation stood zeros, and the array's end
@@ -190,7 +173,7 @@ module _ (e : Equations) (k : ℕ) (room : k < e.count) where
           ∙ ⊎_elim (λ p. u (suc i) (omega arith) p) (λ p. get_or-eq_default l 0 (omega arith)) (below_or_from equation_limit (suc i))
 
 module _ (e : Equations) (n k : ℕ) (at : First e.name e.count n k) where
-  removes : k < e.count → Removes e n (record { found = true; equations = without_place k e })
+  pub removes : k < e.count → Removes e n true (without_place k e)
   unfolding equations_of
   removes h = record {
     found = sym (held_first e n k at h);
@@ -207,12 +190,7 @@ module _ (e : Equations) (n k : ℕ) (at : First e.name e.count n k) where
           (λ i l. equation_after e k h i ∙ ap (equation_at e) (skip_before k i l))
           (λ i l w. equation_after e k h i ∙ ap (equation_at e) (skip_after k i l)))
 
-  -- the struct by the places that were taken out
-  pub gone : k < e.count → (a b c : ℕ) → a ≡ k → b ≡ k → c ≡ k
-      → Removes e n (record { found = true; equations = equations (e.count - 1) (closed a e.name) (closed b e.left) (closed c e.right) })
-  gone h a b c p q r = rw (p, q, r) (removes h)
-
-  pub missing : e.count ≤ k → Removes e n (record { found = false; equations = e })
+  pub missing : e.count ≤ k → Removes e n false e
   missing h = record {
     found = sym (held_none e n k at h);
     held = sym (removed_none n (equations_of e) (held_none e n k at h));

@@ -1,10 +1,11 @@
 -- What the operations give back: one record each, through the views.
 --   First         the first place of a name among the first n, or n
+--   Finds         the place of the held equation of a name, if there is one
 --   PutsNode      declare: one node more, at the end
 --   PutsEquation  equate: one equation more, at the end
 --   Removes       withdraw: the equation of a name taken out, the rest closing up in order, the freed place zero
 -- The exact struct stands beside the lists, so that a value that isn't well-shaped has just one result too.
-use Rattle.std.specs.Prelude.{◌≡◌, true, false, cond, List, [], ◌∷◌, ◌++◌, ℕ, suc, ◌+◌, ◌-◌, ◌*◌, ◌≤◌, ◌<◌, length, get_or, set, ltb}
+use Rattle.std.specs.Prelude.{◌≡◌, Bool, true, false, cond, List, [], ◌∷◌, ◌++◌, ℕ, suc, ◌+◌, ◌-◌, ◌*◌, ◌≤◌, ◌<◌, length, get_or, set, ltb, Option, Some, None}
 use Rattle.std.proofs.Math.Seq.{paste}
 use Rattle.graph.specs.Limits.{node_limit, child_limit}
 use Rattle.graph.specs.State.{Node, equation_of, name_held}
@@ -14,17 +15,24 @@ use Rattle.store.specs.Views.{terms, equations, nodes_of, equations_of}
 use Rattle.store.specs.Shape.{TermsShape, EquationsShape}
 use Rattle.store.specs.declared.Terms.{Terms}
 use Rattle.store.specs.declared.Equations.{Equations}
-use Rattle.store.specs.declared.Removed.{Removed}
 
 pub record First (l : List ℕ) (n x r : ℕ) : Type 0 where
   pub within : r ≤ n
   pub here : r < n → get_or l r 0 ≡ x
   pub before : (i : ℕ) → i < r → get_or l i 0 ≡ x → ⊥
 
+-- the place of the held equation of name x, or none where no equation has it
+abbrev pub Finds : Equations → ℕ → Option ℕ → Type 0
+Finds e x (Some k) = First e.name e.count x k × (k < e.count)
+Finds e x None = First e.name e.count x e.count
+
 -- ---- one more at the end
 
 abbrev pub with_variable : Terms → Terms
 with_variable t = terms (t.count + 1) (set t.kind t.count 0) t.symbol t.arity t.child
+
+abbrev pub with_children : Terms → List ℕ → Terms
+with_children t cs = terms t.count t.kind t.symbol t.arity (paste t.child (4 * t.count) cs (length cs))
 
 abbrev pub with_functor : Terms → ℕ → List ℕ → Terms
 with_functor t f cs =
@@ -60,16 +68,17 @@ pub record PutsEquation (e : Equations) (n u v : ℕ) (r : Equations) : Type 0 w
 abbrev pub skip : ℕ → ℕ → ℕ
 skip k i = cond (ltb i k) i (suc i)
 
--- an array with place k taken out, and zero at its end
-unfoldable pub closed : ℕ → List ℕ → List ℕ
-closed k l = tab (length l) (λ i. get_or l (skip k i) 0)
+-- an array with place k taken out, and z at its end
+unfoldable pub closed : {A : Type 0} → A → ℕ → List A → List A
+closed z k l = tab (length l) (λ i. get_or l (skip k i) z)
 
 abbrev pub without_place : ℕ → Equations → Equations
-without_place k e = equations (e.count - 1) (closed k e.name) (closed k e.left) (closed k e.right)
+without_place k e = equations (e.count - 1) (closed 0 k e.name) (closed 0 k e.left) (closed 0 k e.right)
 
-pub record Removes (e : Equations) (n : ℕ) (r : Removed) : Type 0 where
-  pub found : r.found ≡ name_held n (equations_of e)
-  pub held : equations_of r.equations ≡ removed n (equations_of e)
-  pub exact : (k : ℕ) → First e.name e.count n k → k < e.count → r.equations ≡ without_place k e
-  pub kept : name_held n (equations_of e) ≡ false → r.equations ≡ e
-  pub shape : (m : ℕ) → EquationsShape m e → EquationsShape m r.equations
+-- the reply b, and the equations after it, r
+pub record Removes (e : Equations) (n : ℕ) (b : Bool) (r : Equations) : Type 0 where
+  pub found : b ≡ name_held n (equations_of e)
+  pub held : equations_of r ≡ removed n (equations_of e)
+  pub exact : (k : ℕ) → First e.name e.count n k → k < e.count → r ≡ without_place k e
+  pub kept : name_held n (equations_of e) ≡ false → r ≡ e
+  pub shape : (m : ℕ) → EquationsShape m e → EquationsShape m r

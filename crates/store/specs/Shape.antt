@@ -1,4 +1,4 @@
--- Which arrays a workspace may hold, its solution aside (document 01, "Workspace and terms").
+-- Which arrays a workspace may hold, its solution aside.
 --   TermsShape      counts in range, kinds 0 or 1, at most child_limit children, each an earlier node, zero in every unused place,
 --                   a variable's symbol, number of children and children among them; functor nodes of one symbol have equally many children
 --   EquationsShape  count in range, known ends, names all different, zero in every unused place

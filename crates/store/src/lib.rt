@@ -1,13 +1,13 @@
 // The fixed arrays that a workspace is made of: nodes and held equations; and a table of heads, for groups of nodes.
 #![tactic(auto)]
 
-ghost use Rattle.std.specs.Prelude.{◌≡◌, ◌+◌, ◌≤◌, ◌<◌, true, length, set};
-ghost use Rattle.std.proofs.Math.Seq.{paste};
-ghost use Rattle.graph.specs.Limits.{node_limit, equation_limit};
+ghost use Rattle.std.specs.Prelude.{◌≡◌, ◌==◌, ◌+◌, ◌*◌, ◌≤◌, ◌<◌, true, length};
+ghost use Rattle.graph.specs.Limits.{node_limit, child_limit, equation_limit};
 ghost use Rattle.graph.specs.State.{Node};
 ghost use Rattle.graph.specs.Book.{all_below};
-ghost use Rattle.store.specs.Views.{fresh_terms, fresh_equations};
-ghost use Rattle.store.specs.Operations.{First, Room, PutsNode, PutsEquation, Removes, with_variable, with_functor, closed};
+ghost use Rattle.base.specs.Tab.{tab};
+ghost use Rattle.store.specs.Views.{fresh_terms, fresh_equations, kind_at, arity_at, child_at, children_at};
+ghost use Rattle.store.specs.Operations.{Finds, Room, PutsNode, PutsEquation, Removes, with_variable, with_children, with_functor, closed};
 ghost use Rattle.store.specs.Heads.{Meets};
 
 // The declared nodes: the first `count` places of each array are used. Kind 0 is a variable, 1 a functor node. The children of
@@ -32,122 +32,39 @@ pub struct Equations {
     pub right: [u8; 256],
 }
 
-// What a removal gives back: whether the name was held, and the equations.
-#[derive(Clone, Copy)]
-pub struct Removed {
-    pub found: bool,
-    pub equations: Equations,
-}
-
 // Whether each of the children is below n.
 pub fn all_below(children: &[u16], n: u16) -> bool
     ensures { result ≡ all_below n children.now }
 {
-    let mut i = 0;
-    while i < children.len() {
-        if n <= children[i] {
-            return false;
-        }
-        i += 1;
-    }
-    true
+    children.iter().all(|x| *x < n)
 }
-
-// Stands for the head of a group that has none.
-pub const NO_HEAD: u8 = 64;
 
 // The head of group `c` that the functor node `u` meets. Where there is none yet, `u` becomes it, and none is met; nor by a variable.
-pub fn visit(head: &mut [u8; 64], c: usize, u: usize, kind: u8) -> u8
-    requires { (length head.old ≡ 64) × (c < 64) × (u < 64) }
-    ensures { Meets head.old c u kind head.new result }
+pub fn visit(head: &mut [Option<u8>; 64], c: usize, t: &Terms, u: usize) -> Option<u8>
+    requires { (c < 64) × (u < node_limit) }
+    ensures { Meets head.old c t.now u head.new result }
 {
-    if kind != 1 {
-        return NO_HEAD;
+    if !t.is_functor(u) {
+        return None;
     }
-    let v = head[c];
-    if v < NO_HEAD {
-        return v;
-    }
-    head[c] = u as u8;
-    NO_HEAD
-}
-
-// The first place of x among the first n names, or n.
-pub fn find(name: &[u16; 256], n: usize, x: u16) -> usize
-    requires { n ≤ equation_limit }
-    ensures { First name.now n x result }
-{
-    let s: &[u16] = name;
-    let mut i = 0;
-    while i < n {
-        if s[i] == x {
-            return i;
+    match head[c] {
+        Some(v) => Some(v),
+        None => {
+            head[c] = Some(u as u8);
+            None
         }
-        i += 1;
-    }
-    i
-}
-
-// One name anew; below, one end.
-pub fn set_name(names: &mut [u16; 256], i: usize, x: u16)
-    requires { (i < 256) × (length names.old ≡ 256) }
-    ensures { names.new ≡ set names.old i x }
-{
-    names[i] = x;
-}
-
-pub fn set_end(ends: &mut [u8; 256], i: usize, x: u8)
-    requires { (i < 256) × (length ends.old ≡ 256) }
-    ensures { ends.new ≡ set ends.old i x }
-{
-    ends[i] = x;
-}
-
-// The children, from the place `at` on.
-fn put_children(child: &mut [u8; 256], at: usize, children: &[u16])
-    requires { (at + length children.now ≤ 256) × (length child.old ≡ 256) × (all_below 256 children.now ≡ true) }
-    ensures { child.new ≡ paste child.old at children.now (length children.now) }
-{
-    let mut i = 0;
-    while i < children.len() {
-        child[at + i] = children[i] as u8;
-        i += 1;
     }
 }
 
-// The place whose element moves down to place i.
-fn source(i: usize) -> usize
-    requires { i < 255 }
-    ensures { result ≡ i + 1 }
+// Place k taken out: each later element one place down, and `last` at the end.
+#[tactic(auto, using(crate::proofs::RemoveLaws::closed_copy))]
+fn close<T: Copy>(s: &mut [T], k: usize, last: T)
+    requires { k < length s.old }
+    ensures { s.new ≡ closed last k s.old }
 {
-    i + 1
-}
-
-// Place k taken out: each later element one place down, and a zero at the end.
-fn close_names(names: &mut [u16; 256], k: usize)
-    requires { (k < 256) × (length names.old ≡ 256) }
-    ensures { names.new ≡ closed k names.old }
-{
-    let mut i = k;
-    while i < 255 {
-        let j = source(i);
-        names[i] = names[j];
-        i += 1;
-    }
-    names[255] = 0;
-}
-
-fn close_ends(ends: &mut [u8; 256], k: usize)
-    requires { (k < 256) × (length ends.old ≡ 256) }
-    ensures { ends.new ≡ closed k ends.old }
-{
-    let mut i = k;
-    while i < 255 {
-        let j = source(i);
-        ends[i] = ends[j];
-        i += 1;
-    }
-    ends[255] = 0;
+    let n = s.len();
+    s.copy_within(k + 1.., k);
+    s[n - 1] = last;
 }
 
 impl Terms {
@@ -163,27 +80,61 @@ impl Terms {
         }
     }
 
-    pub fn put_variable(mut self) -> Terms
-        requires { self.count < node_limit }
-        ensures { PutsNode self Node.variable (with_variable self) result }
+    // Whether node u is a functor node.
+    pub fn is_functor(&self, u: usize) -> bool
+        requires { u < node_limit }
+        ensures { result ≡ (kind_at self.now u == 1) }
     {
-        let n = self.count;
-        self.kind[n] = 0;
-        self.count = n + 1;
-        self
+        self.kind[u] == 1
     }
 
-    pub fn put_functor(mut self, symbol: u16, children: &[u16]) -> Terms
-        requires { Room self symbol children.now }
-        ensures { PutsNode self (Node.functor symbol children.now) (with_functor self symbol children.now) result }
+    // The first n child places of node u.
+    pub fn first_children(&self, u: usize, n: usize) -> &[u8]
+        requires { (u < node_limit) × (n ≤ child_limit) }
+        ensures { result.now ≡ tab n (child_at self.now u) }
+    {
+        let at = 4 * u;
+        &self.child[at..at + n]
+    }
+
+    // The children of node u.
+    pub fn children(&self, u: usize) -> &[u8]
+        requires { (u < node_limit) × (arity_at self.now u ≤ child_limit) }
+        ensures { result.now ≡ children_at self.now u }
+    {
+        self.first_children(u, usize::from(self.arity[u]))
+    }
+
+    #[tactic(auto, using(crate::proofs::PutNodeLaws::puts_variable))]
+    pub fn put_variable(&mut self)
+        requires { self.old.count < node_limit }
+        ensures { PutsNode self.old Node.variable (with_variable self.old) self.new }
+    {
+        self.kind[self.count] = 0;
+        self.count += 1;
+    }
+
+    pub fn put_functor(&mut self, symbol: u16, children: &[u16])
+        requires { Room self.old symbol children.now }
+        ensures { PutsNode self.old (Node.functor symbol children.now) (with_functor self.old symbol children.now) self.new }
     {
         let n = self.count;
-        put_children(&mut self.child, 4 * n, children);
+        self.put_children(children);
         self.kind[n] = 1;
         self.symbol[n] = symbol;
         self.arity[n] = children.len() as u8;
         self.count = n + 1;
-        self
+    }
+
+    // The children of the node to come.
+    fn put_children(&mut self, children: &[u16])
+        requires { (4 * self.old.count + length children.now ≤ 256) × (all_below 256 children.now ≡ true) }
+        ensures { self.new ≡ with_children self.old children.now }
+    {
+        let at = 4 * self.count;
+        for (j, x) in children.iter().enumerate() {
+            self.child[at + j] = *x as u8;
+        }
     }
 }
 
@@ -199,38 +150,37 @@ impl Equations {
         }
     }
 
-    pub fn put(mut self, name: u16, left: u8, right: u8) -> Equations
-        requires { self.count < equation_limit }
-        ensures { PutsEquation self name left right result }
+    // The place of the held equation of that name.
+    pub fn find(&self, name: u16) -> Option<usize>
+        requires { self.now.count ≤ equation_limit }
+        ensures { Finds self.now name result }
+    {
+        self.name[..self.count].iter().position(|x| *x == name)
+    }
+
+    pub fn put(&mut self, name: u16, left: u8, right: u8)
+        requires { self.old.count < equation_limit }
+        ensures { PutsEquation self.old name left right self.new }
     {
         let n = self.count;
         self.name[n] = name;
         self.left[n] = left;
         self.right[n] = right;
         self.count = n + 1;
-        self
     }
 
-    pub fn remove(mut self, name: u16) -> Removed
-        requires { self.count ≤ equation_limit }
-        ensures { Removes self name result }
+    // Whether the name was held; its equation goes.
+    pub fn remove(&mut self, name: u16) -> bool
+        requires { self.old.count ≤ equation_limit }
+        ensures { Removes self.old name result self.new }
     {
-        let n = self.count;
-        let k = find(&self.name, n, name);
-        if k < n {
-            close_names(&mut self.name, k);
-            close_ends(&mut self.left, k);
-            close_ends(&mut self.right, k);
-            self.count = n - 1;
-            Removed {
-                found: true,
-                equations: self,
-            }
-        } else {
-            Removed {
-                found: false,
-                equations: self,
-            }
-        }
+        let Some(k) = self.find(name) else {
+            return false;
+        };
+        close(&mut self.name, k, 0);
+        close(&mut self.left, k, 0);
+        close(&mut self.right, k, 0);
+        self.count -= 1;
+        true
     }
 }

@@ -1,83 +1,61 @@
 // One number of children for each symbol: whether a declaration fits the nodes that are there, and whether all of these fit one another.
 #![tactic(auto)]
 
-ghost use Rattle.std.specs.Prelude.{◌≡◌, List, ℕ, ◌+◌, ◌≤◌, ◌<◌};
+ghost use Rattle.std.specs.Prelude.{◌≡◌, ◌+◌, ◌≤◌, ◌<◌};
 ghost use Rattle.base.specs.Tells.{Tells};
 ghost use Rattle.graph.specs.Limits.{node_limit};
+ghost use Rattle.graph.specs.State.{OneArity};
 ghost use Rattle.graph.specs.Book.{arity_fits};
-ghost use Rattle.store.specs.Views.{terms, nodes_of};
-ghost use Rattle.store_arity.specs.Rule.{ArityRule, FitsBefore};
+ghost use Rattle.store.specs.Views.{nodes_of};
+ghost use Rattle.store_arity.specs.Rule.{first_nodes, ArityRule, FitsBefore};
 ghost use Rattle.store_arity.specs.SymbolHeads.{SymbolHeads};
 
-// Whether each functor node of symbol f among the first n has k children, whichever. No way out in the middle, so that the compiler can take
-// many nodes at a time.
-pub fn arity_fits<'a>(
-    kind: &'a [u8; 64],
-    symbol: &'a [u16; 64],
-    arity: &'a [u8; 64],
-    n: usize,
-    f: u16,
-    k: u8,
-) -> bool
+use store::Terms;
+
+// Whether each functor node of symbol f among the first n has k children. No way out in the middle, so that the compiler can take many
+// nodes at a time.
+#[tactic(auto, using(crate::proofs::FitLaws::fits_none, crate::proofs::FitLaws::fits_more))]
+pub fn arity_fits(t: &Terms, n: usize, f: u16, k: u8) -> bool
     requires { n ≤ node_limit }
-    ensures { (child : List ℕ) → result ≡ arity_fits f k (nodes_of (terms n kind.now symbol.now arity.now child)) }
+    ensures { result ≡ arity_fits f k (nodes_of (first_nodes t.now n)) }
 {
-    let kinds: &[u8] = kind;
-    let symbols: &[u16] = symbol;
-    let arities: &[u8] = arity;
     let mut ok = true;
-    let mut u = 0;
-    while u < n {
-        ok = ok & ((kinds[u] != 1) | (symbols[u] != f) | (arities[u] == k));
-        u += 1;
+    for u in 0..n {
+        ok &= (t.kind[u] != 1) | (t.symbol[u] != f) | (t.arity[u] == k);
     }
     ok
 }
 
 // Whether node u fits those before it, as declare would ask; these fit one another. `head` has a functor node for each remainder that a
 // symbol leaves. One of u's symbol decides; one of another symbol tells nothing, and each node before u is looked at.
-fn node_fits<'a>(
-    head: &mut [u8; 64],
-    kind: &'a [u8; 64],
-    symbol: &'a [u16; 64],
-    arity: &'a [u8; 64],
-    u: usize,
-) -> bool
-    requires { (u < node_limit) × SymbolHeads kind.now symbol.now head.old u × ArityRule kind.now symbol.now arity.now u }
-    ensures symbol_heads { SymbolHeads kind.now symbol.now head.new (u + 1) }
-    ensures fits_before { FitsBefore kind.now symbol.now arity.now u result }
+fn node_fits(head: &mut [Option<u8>; 64], t: &Terms, u: usize) -> bool
+    requires { (u < node_limit) × SymbolHeads t.now head.old u × ArityRule t.now u }
+    ensures symbol_heads { SymbolHeads t.now head.new (u + 1) }
+    ensures fits_before { FitsBefore t.now u result }
 {
-    let symbols: &[u16] = symbol;
-    let arities: &[u8] = arity;
-    let f = symbols[u];
-    let v = store::visit(head, (f % 64) as usize, u, kind[u]);
-    if store::NO_HEAD <= v {
+    let f = t.symbol[u];
+    let k = t.arity[u];
+    let Some(v) = store::visit(head, usize::from(f % 64), t, u) else {
         return true;
+    };
+    let w = usize::from(v);
+    if t.symbol[w] == f {
+        t.arity[w] == k
+    } else {
+        arity_fits(t, u, f, k)
     }
-    let w = base::wide(v);
-    if symbols[w] == f {
-        return arities[w] == arities[u];
-    }
-    arity_fits(kind, symbol, arity, u, f, arities[u])
 }
 
-// Whether, of the first n nodes, functor nodes of one symbol have equally many children.
-pub fn one_arity<'a>(
-    kind: &'a [u8; 64],
-    symbol: &'a [u16; 64],
-    arity: &'a [u8; 64],
-    n: usize,
-) -> bool
-    requires { n ≤ node_limit }
-    ensures { Tells (ArityRule kind.now symbol.now arity.now n) result }
+// Whether functor nodes of one symbol have equally many children.
+pub fn one_arity(t: &Terms) -> bool
+    requires { t.now.count ≤ node_limit }
+    ensures { Tells (OneArity (nodes_of t.now)) result }
 {
-    let mut head = [store::NO_HEAD; 64];
-    let mut u = 0;
-    while u < n {
-        if !node_fits(&mut head, kind, symbol, arity, u) {
+    let mut head = [None; 64];
+    for u in 0..t.count {
+        if !node_fits(&mut head, t, u) {
             return false;
         }
-        u += 1;
     }
     true
 }

@@ -1,5 +1,5 @@
 -- Laws of the shape test.
---   RuleLaws    the rules of a node, and zeros in unused places
+--   RuleLaws    tests of each element of a list
 --   BitLaws     the set of names
 --   ShapeLaws   the rules together are the shape
 pub mod RuleLaws

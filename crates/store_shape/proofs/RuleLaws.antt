@@ -1,63 +1,68 @@
--- The rules one at a time: what each comparison of the code tells.
-use mathlib.Core.Path.{◌≡◌}
-use mathlib.Core.Bool.{Bool, true, ◌&&◌}
-use mathlib.Core.Logic.{⊎_elim}
-use mathlib.Core.List.{List}
-use Prim.Native.Nat.{ℕ, ◌+◌, ◌*◌, ◌≤◌, ◌<◌}
-use native.Mathlib.Nat.{eq-or-lt_of_le}
+-- Tests of each element of a list, and what they tell of an array's places.
+use mathlib.Core.Path.{◌≡◌, refl, sym, ap, ◌∙◌}
+use mathlib.Core.Bool.{Bool, true, false, ◌&&◌}
+use mathlib.Core.List.{List, [], ◌∷◌}
+use Prim.Native.Nat.{ℕ, ◌+◌, ◌-◌, ◌≤◌, ◌<◌}
 use native.Mathlib.Omega.{arith}
-use lib.Dec.{eqb, ltb, leb}
-use lib.ListN.{get_or}
-use Rattle.graph.specs.Limits.{child_limit}
-use Rattle.store_shape.specs.Rules.{ZeroFrom, Head, ChildRule, NodeRule}
+use lib.Dec.{eqb, ltb}
+use borrow.Rule.Slice.PartMut.{mid_of}
+use lib.ListN.{length, get_or, take, drop, length-drop}
+use Rattle.std.specs.List.{fold, list_all}
+use Rattle.std.proofs.lemmas.List.Recursion.{and_at, and_from_places}
+use Rattle.std.proofs.lemmas.List.{get_or-take, get_or-drop, length-take-le}
+use Rattle.store_shape.specs.Rules.{EachBelow, ZeroFrom}
+use Rattle.base.proofs.AbsurdLaws.{true_is_false}
 use Rattle.base.specs.Tells.{Tells, Each}
-use Rattle.base.proofs.TellLaws.{tells_yes, tells_same, tells_both, tells_eq, tells_lt, tells_le, tells_more}
+use Rattle.base.proofs.TellLaws.{tells_true, tells_same, tells_eq, tells_lt}
 
--- ---- zeros from a place on
+-- ---- a test of each element of a list
 
-module _ (l : List ℕ) (k : ℕ) where
-  pub zero_none : Tells (ZeroFrom l k k) true
-  zero_none = tells_yes (λ i h g. absurd (omega arith))
+-- many at a time, from a on
+fold_all : {X : Type 0} (p : X → Bool) (a : Bool) (xs : List X) → fold (λ ok x. ok && p x) a xs ≡ a && list_all p xs
+fold_all p a [] = and_true a
+  where
+    and_true : (a : Bool) → a ≡ a && true
+    and_true true = refl
+    and_true false = refl
+fold_all p a (x ∷ xs) = fold_all p (a && p x) xs ∙ and_assoc a (p x) (list_all p xs)
+  where
+    and_assoc : (a b c : Bool) → (a && b) && c ≡ a && (b && c)
+    and_assoc true b c = refl
+    and_assoc false b c = refl
 
-  pub zero_more : (i : ℕ) {a : Bool} → k ≤ i → Tells (ZeroFrom l k i) a → Tells (ZeroFrom l k (i + 1)) (a && eqb (get_or l i 0) 0)
-  zero_more i h t =
-      tells_more (λ j. k ≤ j → get_or l j 0 ≡ 0) i t (tells_same (λ e g. e) (λ f. f h) (tells_eq (get_or l i 0) 0))
+pub fold_each : {X : Type 0} (p : X → Bool) (xs : List X) → fold (λ ok x. ok && p x) true xs ≡ list_all p xs
+fold_each p xs = fold_all p true xs
 
--- ---- one node
+tells_all : {X : Type 0} (p : X → Bool) (P : ℕ → Type 0) (xs : List X) (d : X) → ((i : ℕ) → i < length xs → Tells (P i) (p (get_or xs i d)))
+    → Tells (Each P (length xs)) (list_all p xs)
+tells_all p P xs d t = record {
+  holds = λ e i l. (t i l).holds (and_at (list_all p) p refl (λ x xs. refl) xs i d l e);
+  fails = λ e q. true_is_false (sym (and_from_places (list_all p) p refl (λ x xs. refl) xs d (λ i l. tells_true (t i l) (q i l))) ∙ e);
+}
 
-module _ (k f a : ℕ) where
-  pub head_variable : k ≡ 0 → Tells (Head k f a) (eqb f 0 && eqb a 0)
-  head_variable z =
-      tells_same
-      (λ p. record { kind = omega arith; arity = omega (arith, p.1); symbol_zero = λ e. p.0; arity_zero = λ e. p.1 })
-      (λ h. (h.symbol_zero z, h.arity_zero z))
-      (tells_both (tells_eq f 0) (tells_eq a 0))
+-- what the test of an array's places from k on tells; m is the array's length
+pub zero_tells : (l : List ℕ) (k m : ℕ) → m ≡ length l → k ≤ m → {r : Bool} → r ≡ list_all (λ x. eqb x 0) (mid_of k (m - k) l) → Tells (ZeroFrom l k) r
+zero_tells l k m z h e =
+    rw e
+    (tells_same
+    (λ q i g w.
+    let j : k + (i - k) ≡ i = omega arith in
+    ap (λ (x : ℕ). get_or l x 0) (sym j) ∙ sym (at (i - k) (omega arith)) ∙ q (i - k) (omega (arith, size)))
+    (λ q i g. at i (omega (arith, size)) ∙ q (k + i) (omega (arith, size)) (omega arith))
+    (tells_all (λ x. eqb x 0) (λ i. get_or (mid_of k (m - k) l) i 0 ≡ 0) (mid_of k (m - k) l) 0 (λ i g. tells_eq (get_or (mid_of k (m - k) l) i 0) 0)))
+  where
+    size : length (mid_of k (m - k) l) ≡ m - k
+    size = length-take-le (m - k) (drop k l) (omega (arith, length-drop k l))
 
-  pub head_functor : (k ≡ 0 → ⊥) → Tells (Head k f a) (eqb k 1 && leb a child_limit)
-  head_functor n =
-      tells_same
-      (λ p. record { kind = omega (arith, p.0); arity = p.1; symbol_zero = λ e. absurd (n e); arity_zero = λ e. absurd (n e) })
-      (λ h. (one h.kind, h.arity))
-      (tells_both (tells_eq k 1) (tells_le a child_limit))
-    where
-      one : k ≤ 1 → k ≡ 1
-      one h = ⊎_elim (λ e. e) (λ l. absurd (n (omega arith))) (eq-or-lt_of_le h)
+    at : (i : ℕ) → i < m - k → get_or (mid_of k (m - k) l) i 0 ≡ get_or l (k + i) 0
+    at i g = get_or-take (m - k) (drop k l) i 0 g ∙ get_or-drop k l i 0
 
-module _ (a u c j : ℕ) where
-  pub place_used : j < a → (limit : ℕ) → limit ≡ u → Tells (ChildRule a u c j) (ltb c limit)
-  place_used h limit e =
-      tells_same
-      (λ l. record { earlier = λ g. omega (arith, l); unused = λ g. absurd (omega arith) })
-      (λ p. omega (arith, p.earlier h))
-      (tells_lt c limit)
-
-  pub place_unused : a ≤ j → Tells (ChildRule a u c j) (eqb c 0)
-  place_unused h =
-      tells_same (λ e. record { earlier = λ g. absurd (omega arith); unused = λ g. e }) (λ p. p.unused h) (tells_eq c 0)
-
-pub node_rule : (kind symbol arity child : List ℕ) (u : ℕ) {a b : Bool}
-    → Tells (Head (get_or kind u 0) (get_or symbol u 0) (get_or arity u 0)) a
-    → Tells (Each (λ j. ChildRule (get_or arity u 0) u (get_or child (4 * u + j) 0) j) child_limit) b
-    → Tells (NodeRule kind symbol arity child u) (a && b)
-node_rule kind symbol arity child u t v =
-    tells_same (λ p. record { head = p.0; places = p.1 }) (λ r. (r.head, r.places)) (tells_both t v)
+-- what the test of its first n places tells
+pub below_tells : (l : List ℕ) (m n : ℕ) → n ≤ length l → {r : Bool} → r ≡ list_all (λ x. ltb x m) (take n l) → Tells (EachBelow l m n) r
+below_tells l m n h e =
+    let z : length (take n l) ≡ n = length-take-le n l h in
+    rw e
+    (tells_same
+    (λ q i g. rw get_or-take at (q i (omega arith)))
+    (λ q i g. let w : i < n = omega arith in rw get_or-take (q i w))
+    (tells_all (λ x. ltb x m) (λ i. get_or (take n l) i 0 < m) (take n l) 0 (λ i g. tells_lt (get_or (take n l) i 0) m)))

@@ -1,55 +1,31 @@
 // The test that arrays of nodes and equations, with any values whatever in them, are well-shaped.
 #![tactic(auto)]
 
-ghost use Rattle.std.specs.Prelude.{◌≡◌, true, false, ◌+◌, ◌*◌, ◌≤◌, ◌<◌, length, get_or};
+ghost use Rattle.std.specs.Prelude.{◌≡◌, ◌+◌, ◌*◌, ◌≤◌, ◌<◌, length, nat_lt};
+ghost use Rattle.std.specs.List.{list_all};
 ghost use Rattle.graph.specs.Limits.{node_limit, child_limit, equation_limit};
-ghost use Rattle.store.specs.Views.{terms, equations};
+ghost use Rattle.store.specs.Views.{arity_at, child_at};
 ghost use Rattle.store.specs.Shape.{TermsShape, EquationsShape, Shape};
-ghost use Rattle.store_shape.specs.Rules.{EachBelow, ZeroFrom, Distinct, Head, ChildRule, NodeRule, EndRules, Sizes, EndSizes};
+ghost use Rattle.store_shape.specs.Rules.{Distinct, Head, ChildRule, NodeRule, EndRules};
 ghost use Rattle.base.specs.Tells.{Tells, Each};
 ghost use Rattle.store_shape.specs.Bits.{BitNoted, Marks};
 
-// The loops have no way out in the middle, so that the compiler can take many elements at a time.
+use store::{Equations, Terms};
 
-// Whether each place from k on is zero.
-fn zero_from(s: &[u8], k: usize) -> bool
-    requires { k ≤ length s.now }
-    ensures { Tells (ZeroFrom s.now k (length s.now)) result }
+// The folds and loops have no way out in the middle, so that the compiler can take many elements at a time.
+
+// Whether each is z.
+fn each_is<T: Copy + PartialEq>(s: &[T], z: T) -> bool
+    ensures { result ≡ list_all (λ x. T.eq x z) s.now }
 {
-    let mut ok = true;
-    let mut i = k;
-    while i < s.len() {
-        ok = ok & (s[i] == 0);
-        i += 1;
-    }
-    ok
+    s.iter().fold(true, |ok, x| ok & (*x == z))
 }
 
-fn zero_wide_from(s: &[u16], k: usize) -> bool
-    requires { k ≤ length s.now }
-    ensures { Tells (ZeroFrom s.now k (length s.now)) result }
+// Whether each is below m.
+fn each_below(s: &[u8], m: u8) -> bool
+    ensures { result ≡ list_all (λ x. nat_lt x m) s.now }
 {
-    let mut ok = true;
-    let mut i = k;
-    while i < s.len() {
-        ok = ok & (s[i] == 0);
-        i += 1;
-    }
-    ok
-}
-
-// Whether the first n are below m.
-fn first_below(s: &[u8], n: usize, m: u8) -> bool
-    requires { n ≤ length s.now }
-    ensures { Tells (EachBelow s.now m n) result }
-{
-    let mut ok = true;
-    let mut i = 0;
-    while i < n {
-        ok = ok & (s[i] < m);
-        i += 1;
-    }
-    ok
+    s.iter().fold(true, |ok, x| ok & (*x < m))
 }
 
 // ---- nodes
@@ -60,7 +36,7 @@ fn head_ok(kind: u8, symbol: u16, arity: u8) -> bool
     if kind == 0 {
         (symbol == 0) & (arity == 0)
     } else {
-        (kind == 1) & (arity as usize <= graph::CHILDREN)
+        (kind == 1) & (usize::from(arity) <= graph::CHILDREN)
     }
 }
 
@@ -70,162 +46,96 @@ fn place_ok(arity: u8, u: u8, c: u8, j: u8) -> bool
     if j < arity { c < u } else { c == 0 }
 }
 
-fn places_ok(child: &[u8], arity: u8, u: u8) -> bool
-    requires { (length child.now ≡ child_limit * node_limit) × (u < node_limit) }
-    ensures { Tells (Each (λ j. ChildRule arity u (get_or child.now (4 * u + j) 0) j) child_limit) result }
+fn places_ok(t: &Terms, u: usize) -> bool
+    requires { u < node_limit }
+    ensures { Tells (Each (λ j. ChildRule (arity_at t.now u) u (child_at t.now u j) j) child_limit) result }
 {
-    let at = 4 * (u as usize);
     let mut ok = true;
-    let mut j = 0;
-    while j < graph::CHILDREN {
-        ok = ok & place_ok(arity, u, child[at + j], j as u8);
-        j += 1;
+    for j in 0..graph::CHILDREN {
+        ok &= place_ok(t.arity[u], u as u8, t.child[4 * u + j], j as u8);
     }
     ok
 }
 
-fn node_ok<'a>(
-    kind: &'a [u8],
-    symbol: &'a [u16],
-    arity: &'a [u8],
-    child: &'a [u8],
-    u: usize,
-) -> bool
-    requires { Sizes kind.now symbol.now arity.now child.now × (u < node_limit) }
-    ensures { Tells (NodeRule kind.now symbol.now arity.now child.now u) result }
-{
-    head_ok(kind[u], symbol[u], arity[u]) & places_ok(child, arity[u], u as u8)
-}
-
-fn nodes_ok<'a>(
-    kind: &'a [u8],
-    symbol: &'a [u16],
-    arity: &'a [u8],
-    child: &'a [u8],
-    n: usize,
-) -> bool
-    requires { Sizes kind.now symbol.now arity.now child.now × (n ≤ node_limit) }
-    ensures { Tells (Each (NodeRule kind.now symbol.now arity.now child.now) n) result }
+fn nodes_ok(t: &Terms) -> bool
+    requires { t.now.count ≤ node_limit }
+    ensures { Tells (Each (NodeRule t.now) t.now.count) result }
 {
     let mut ok = true;
-    let mut u = 0;
-    while u < n {
-        ok = ok & node_ok(kind, symbol, arity, child, u);
-        u += 1;
+    for u in 0..t.count {
+        ok &= head_ok(t.kind[u], t.symbol[u], t.arity[u]) & places_ok(t, u);
     }
     ok
 }
 
-// Whether the arrays of nodes, of which the first n places are in use, are well-shaped.
-pub fn terms_shaped<'a>(
-    n: usize,
-    kind: &'a [u8; 64],
-    symbol: &'a [u16; 64],
-    arity: &'a [u8; 64],
-    child: &'a [u8; 256],
-) -> bool
-    ensures { Tells (TermsShape (terms n kind.now symbol.now arity.now child.now)) result }
+// Whether the nodes are well-shaped.
+pub fn terms_shaped(t: &Terms) -> bool
+    ensures { Tells (TermsShape t.now) result }
 {
-    let k: &[u8] = kind;
-    let f: &[u16] = symbol;
-    let a: &[u8] = arity;
-    let c: &[u8] = child;
+    let n = t.count;
     if n > graph::NODES {
         return false;
     }
-    let used = nodes_ok(k, f, a, c, n);
-    let unused = zero_from(k, n) & zero_wide_from(f, n) & zero_from(a, n) & zero_from(c, 4 * n);
-    used & unused & store_arity::one_arity(kind, symbol, arity, n)
+    let used = nodes_ok(t);
+    let unused = each_is(&t.kind[n..], 0)
+        & each_is(&t.symbol[n..], 0)
+        & each_is(&t.arity[n..], 0)
+        & each_is(&t.child[4 * n..], 0);
+    used & unused & store_arity::one_arity(t)
 }
 
 // ---- equations
 
 // Notes x in the set; tells whether it is new there.
 fn note(seen: &mut [u64; 1024], x: u16) -> bool
-    requires { length seen.old ≡ 1024 }
     ensures { BitNoted seen.old seen.new x result }
 {
-    let w = (x / 64) as usize;
+    let w = usize::from(x / 64);
     let b = x % 64;
     let old = seen[w];
     seen[w] = old | (1 << b);
     (old >> b) % 2 == 0
 }
 
-// Whether the first n are all different, by a set that is empty at first.
-fn all_new(seen: &mut [u64; 1024], s: &[u16], n: usize) -> bool
-    requires { (length seen.old ≡ 1024) × (n ≤ length s.now) × Marks seen.old s.now 0 }
-    ensures { Tells (Distinct s.now n) result }
+// Whether all are different.
+fn all_differ(names: &[u16]) -> bool
+    ensures { Tells (Distinct names.now (length names.now)) result }
 {
-    let mut i = 0;
-    while i < n {
-        if !note(seen, s[i]) {
+    let mut seen = [0; 1024];
+    for x in names {
+        if !note(&mut seen, *x) {
             return false;
         }
-        i += 1;
     }
     true
 }
 
-fn names_differ(s: &[u16], n: usize) -> bool
-    requires { n ≤ length s.now }
-    ensures { Tells (Distinct s.now n) result }
+// Whether the ends of the equations are below n, and all unused places zero.
+fn ends_ok(n: usize, e: &Equations) -> bool
+    requires { (n ≤ node_limit) × (e.now.count ≤ equation_limit) }
+    ensures { Tells (EndRules n e.now) result }
 {
-    let mut seen = [0u64; 1024];
-    all_new(&mut seen, s, n)
-}
-
-// Whether the ends of m equations are below n, and all unused places zero.
-fn ends_ok<'a>(n: u8, m: usize, name: &'a [u16], left: &'a [u8], right: &'a [u8]) -> bool
-    requires { EndSizes name.now left.now right.now × (m ≤ equation_limit) }
-    ensures { Tells (EndRules n m name.now left.now right.now) result }
-{
-    let known = first_below(left, m, n) & first_below(right, m, n);
-    let unused = zero_wide_from(name, m) & zero_from(left, m) & zero_from(right, m);
+    let m = e.count;
+    let known = each_below(&e.left[..m], n as u8) & each_below(&e.right[..m], n as u8);
+    let unused = each_is(&e.name[m..], 0) & each_is(&e.left[m..], 0) & each_is(&e.right[m..], 0);
     known & unused
 }
 
-// Whether the arrays of equations, of which the first m places are in use, are well-shaped beside n nodes.
-pub fn equations_shaped<'a>(
-    n: usize,
-    m: usize,
-    name: &'a [u16; 256],
-    left: &'a [u8; 256],
-    right: &'a [u8; 256],
-) -> bool
+// Whether the equations are well-shaped beside n nodes.
+pub fn equations_shaped(n: usize, e: &Equations) -> bool
     requires { n ≤ node_limit }
-    ensures { Tells (EquationsShape n (equations m name.now left.now right.now)) result }
+    ensures { Tells (EquationsShape n e.now) result }
 {
-    let a: &[u16] = name;
-    let b: &[u8] = left;
-    let c: &[u8] = right;
+    let m = e.count;
     if m > graph::EQUATIONS {
         return false;
     }
-    if ends_ok(n as u8, m, a, b, c) {
-        names_differ(a, m)
-    } else {
-        false
-    }
+    ends_ok(n, e) && all_differ(&e.name[..m])
 }
 
-// Whether the arrays of a workspace are well-shaped.
-pub fn shaped<'a>(
-    n: usize,
-    kind: &'a [u8; 64],
-    symbol: &'a [u16; 64],
-    arity: &'a [u8; 64],
-    child: &'a [u8; 256],
-    m: usize,
-    name: &'a [u16; 256],
-    left: &'a [u8; 256],
-    right: &'a [u8; 256],
-) -> bool
-    ensures { Tells (Shape (terms n kind.now symbol.now arity.now child.now) (equations m name.now left.now right.now)) result }
+// Whether nodes and equations are well-shaped.
+pub fn shaped(t: &Terms, e: &Equations) -> bool
+    ensures { Tells (Shape t.now e.now) result }
 {
-    if terms_shaped(n, kind, symbol, arity, child) {
-        equations_shaped(n, m, name, left, right)
-    } else {
-        false
-    }
+    terms_shaped(t) && equations_shaped(t.count, e)
 }

@@ -8,23 +8,26 @@ mod no_workspace; // refusal 1's small example
 mod proved; // what must hold of every proof
 mod random; // random workspaces and their proofs
 mod reading; // line by line
+mod replies; // what the library replies here
 mod sample; // a workspace that has a proof of every kind
-mod tools; // what came otherwise
 
 use std::io;
+use test_tools::bytes::FILLER;
 
 // The proofs of the sample's calls.
 fn proofs(rt: &impl Print, proof: &mut [u8]) -> io::Result<()> {
     let w = sample::workspace(proof);
     let n = sample::prove(w, proof);
-    damage::all(rt, w, test_tools::bytes::part(proof, 0, n))?;
-    choosing::lists(rt, w, test_tools::bytes::part(proof, 0, n))?;
+    if let Some(lines) = proof.get(..n) {
+        damage::all(rt, w, lines)?;
+        choosing::lists(rt, w, lines)?;
+    }
     choosing::earlies(rt, w)?;
     choosing::clash(rt, w, proof)
 }
 
 fn main(rt: HostRuntime) -> io::Result<()> {
-    let mut proof = [165u8; 65536];
+    let mut proof = [FILLER; 65536];
     let w = no_workspace::own_child();
     no_workspace::changes(&rt, w, &mut proof)?;
     no_workspace::questions(&rt, w, &mut proof)?;

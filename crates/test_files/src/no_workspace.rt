@@ -1,80 +1,61 @@
 // Refusal 1's small example: node 0 has child 0. Every call refuses it; clear takes it, and what it gives is a workspace without nodes.
-use super::sample;
-use proof_shorter::ShorterReply;
+use super::{replies, sample};
 use std::io;
-use test_solver::book;
-use test_solver::numbers::put;
-use test_tools::{print, replies, workspaces};
-use unifier::{Outcome, Workspace};
+use test_tools::replies::Answer;
+use test_tools::workspaces;
+use unifier::Workspace;
 
 pub fn own_child() -> Workspace {
-    let mut m = [0usize; 4096];
-    put(&mut m, book::NODES, 1);
-    put(&mut m, book::KIND, 1);
-    put(&mut m, book::ARITY, 1);
-    workspaces::load(&m)
+    let mut w = Workspace::fresh();
+    w.terms.count = 1;
+    w.terms.kind[0] = 1;
+    w.terms.arity[0] = 1;
+    w
 }
 
-// A refusal's number, or 0
-
-fn changed(o: Outcome) -> usize {
-    let r = o.reply;
-    replies::refusal(replies::changed(r))
+// A refusal's number, or 0.
+fn told(rt: &impl Print, call: &str, number: u8) -> io::Result<()> {
+    println!(rt; "{call}: refused {number}")
 }
 
-fn compare(w: Workspace, proof: &mut [u8]) -> usize {
-    let o = w.compare(0, 0, proof);
-    let r = o.reply;
-    replies::refusal(replies::compared(r))
-}
-
-fn class_of(w: Workspace) -> usize {
-    let o = w.class_of(0);
-    let r = o.reply;
-    replies::refusal(replies::classified(r))
-}
-
-fn check(w: Workspace, line: &[u8]) -> usize {
-    let o = workspaces::check(w, sample::same(0, 0), line);
-    let r = o.reply;
-    replies::refusal(replies::checked(r))
-}
-
-fn chosen(w: Workspace, line: &[u8]) -> usize {
-    let x = sample::same(0, 0);
-    match proof_shorter::shorter_reply(w, replies::offer(x), line, line, replies::goal(x)) {
-        ShorterReply::Refused(k) => k as usize,
-        _ => 0,
-    }
+fn asked(rt: &impl Print, call: &str, a: Answer) -> io::Result<()> {
+    told(rt, call, a.reply.number())
 }
 
 pub fn changes(rt: &impl Print, w: Workspace, proof: &mut [u8]) -> io::Result<()> {
-    let none: [u16; 0] = [];
-    let a = changed(w.declare_variable());
-    let b = changed(w.declare_functor(1, &none));
-    let c = changed(w.equate(10, 0, 0, proof));
-    let n: [usize; 4] = [a, b, c, changed(w.withdraw(10))];
-    print(
+    asked(
         rt,
-        b"node 0 has child 0, declare a variable: refused #\ndeclare a functor node: refused #\nequate: refused #\nwithdraw: refused #\n",
-        &n,
-        0,
-    )
+        "node 0 has child 0, declare a variable",
+        Answer::node(w.declare_variable()),
+    )?;
+    asked(
+        rt,
+        "declare a functor node",
+        Answer::node(w.declare_functor(1, &[])),
+    )?;
+    asked(rt, "equate", Answer::held(w.equate(10, 0, 0, proof)))?;
+    asked(rt, "withdraw", Answer::gone(w.withdraw(10)))
 }
 
 pub fn questions(rt: &impl Print, w: Workspace, proof: &mut [u8]) -> io::Result<()> {
-    let line: [u8; 8] = [3, 0, 0, 0, 0, 0, 0, 0];
-    let n: [usize; 5] = [
-        compare(w, proof),
-        class_of(w),
-        check(w, &line),
-        chosen(w, &line),
-        class_of(w.clear()),
-    ];
-    print(
-        rt,
-        b"compare: refused #\nclass: refused #\ncheck: refused #\nshorter of two: refused #\nclear, then class of node 0: refused #\n",
-        &n,
+    let line = [3, 0, 0, 0, 0, 0, 0, 0];
+    let x = sample::same(0, 0);
+    asked(rt, "compare", Answer::stand(w.compare(0, 0, proof)))?;
+    asked(rt, "class", Answer::class(w.class_of(0)))?;
+    asked(rt, "check", workspaces::check(w, x, &line))?;
+    let neither = replies::choose(w, x, &line, &line).err();
+    let number = neither.map_or(
         0,
+        |n| if n.list.is_none() {
+            n.refusal.number()
+        } else {
+            0
+        },
+    );
+    told(rt, "shorter of two", number)?;
+    asked(
+        rt,
+        "clear, then class of node 0",
+        Answer::class(w.clear().class_of(0)),
     )
 }

@@ -1,121 +1,152 @@
 // Random workspaces: every proof that their calls give passes, is written, read back, read line by line, and chosen against a longer one.
-use super::{proved, tools};
+ghost use Rattle.std.specs.Prelude.{◌≤◌, ◌-◌};
+
+use super::proved;
 use std::io;
-use test_solver::checker;
+use test_solver::book::Equation;
 use test_solver::checker::Question;
-use test_solver::numbers::{add, get, put};
-use test_tools::bytes::low16;
-use test_tools::{bytes, print, replies, workspaces};
+use test_tools::counts::add;
+use test_tools::replies::{Answer, Reply};
+use test_tools::workspaces::{functor, variable};
 use unifier::Workspace;
 
-// Places of the counts are the replies' numbers; the last has the random state.
-const STATE: usize = 63;
+// A linear congruential generator.
+#[derive(Clone, Copy, Debug)]
+struct Rng(u64);
 
-// A linear congruential generator's next number, taken below n.
-fn draw(tally: &mut [usize], n: usize) -> usize {
-    let x = get(tally, STATE);
-    let y = ((x % 2147483648) * 1103515245 + 12345) % 2147483648;
-    put(tally, STATE, y);
-    if 0 < n { (y >> 16) % n } else { 0 }
+impl Rng {
+    // The next number, taken below n; of none, 0.
+    fn below(&mut self, n: u16) -> u16
+        ensures { result ≤ n - 1 }
+    {
+        self.0 = ((self.0 % (1 << 31)) * 1103515245 + 12345) % (1 << 31);
+        if n == 0 {
+            return 0;
+        }
+        ((self.0 >> 16) % u64::from(n)) as u16
+    }
+
+    fn node(&mut self) -> u16 {
+        self.below(9)
+    }
 }
 
-// Two nodes, and whether their equation is offered.
-fn pick(tally: &mut [usize], on: bool, name: usize) -> Question {
-    let u = draw(tally, 9);
-    let v = draw(tally, 9);
-    checker::offering(on, name, u, v)
+#[derive(Clone, Copy, Default)]
+struct Counts {
+    held: usize,
+    clash: usize,
+    cycle: usize,
+    same: usize,
+    below: usize,
+    above: usize,
+    apart: usize,
+    otherwise: usize,
 }
 
-// The place of the reply, or 0 where its proof, of n bytes, isn't good.
-fn placed(w: Workspace, x: Question, code: usize, proof: &[u8], n: usize) -> usize {
-    let asked = replies::shown(x, code, x.left, x.right);
-    let ok = proved::good(w, asked, bytes::part(proof, 0, n));
-    tools::place_if(
-        ok | (code == replies::HELD) | (code == replies::APART),
-        code,
-    )
+impl Counts {
+    fn count(&mut self, reply: Reply) {
+        match reply {
+            Reply::Held => add(&mut self.held, 1),
+            Reply::Clash => add(&mut self.clash, 1),
+            Reply::Cycle => add(&mut self.cycle, 1),
+            Reply::Same => add(&mut self.same, 1),
+            Reply::Below => add(&mut self.below, 1),
+            Reply::Above => add(&mut self.above, 1),
+            Reply::Apart => add(&mut self.apart, 1),
+            _ => add(&mut self.otherwise, 1),
+        }
+    }
+
+    // An answer about two nodes, whose proof, if there is one, has to be good.
+    fn answered(
+        &mut self,
+        w: Workspace,
+        a: Answer,
+        offer: Option<Equation>,
+        u: u16,
+        v: u16,
+        proof: &[u8],
+    ) {
+        let good = a.reply.goal(u, v).is_none_or(|goal| {
+            let x = Question { offer, goal };
+            proof.get(..a.proof).is_some_and(|p| proved::good(w, x, p))
+        });
+        if good {
+            self.count(a.reply);
+        } else {
+            add(&mut self.otherwise, 1);
+        }
+    }
 }
 
 // Calls
 
-fn equate(w: Workspace, name: usize, tally: &mut [usize], proof: &mut [u8]) -> Workspace {
-    let x = pick(tally, true, name);
-    let o = w.equate(low16(name), low16(x.left), low16(x.right), proof);
-    let r = o.reply;
-    let at = placed(w, x, replies::changed(r), proof, replies::changed_bytes(r));
-    add(tally, at, 1);
-    o.workspace
+fn equate(
+    w: Workspace,
+    name: u16,
+    rng: &mut Rng,
+    counts: &mut Counts,
+    proof: &mut [u8],
+) -> Workspace {
+    let left = rng.node();
+    let right = rng.node();
+    let a = Answer::held(w.equate(name, left, right, proof));
+    let offer = Some(Equation { name, left, right });
+    counts.answered(w, a, offer, left, right, proof);
+    a.workspace
 }
 
-fn compare(w: Workspace, tally: &mut [usize], proof: &mut [u8]) {
-    let x = pick(tally, false, 0);
-    let o = w.compare(low16(x.left), low16(x.right), proof);
-    let r = o.reply;
-    let at = placed(
-        w,
-        x,
-        replies::compared(r),
-        proof,
-        replies::compared_bytes(r),
-    );
-    add(tally, at, 1);
+fn compare(w: Workspace, rng: &mut Rng, counts: &mut Counts, proof: &mut [u8]) {
+    let u = rng.node();
+    let v = rng.node();
+    let a = Answer::stand(w.compare(u, v, proof));
+    counts.answered(w, a, None, u, v, proof);
 }
 
 // Two variables first, then variables and functor nodes of two symbols and two children.
-fn declare(w: Workspace, i: usize, tally: &mut [usize]) -> Workspace {
-    let symbol = draw(tally, 3);
-    let a = low16(draw(tally, i));
-    let children: [u16; 2] = [a, low16(draw(tally, i))];
-    if (i < 2) | (symbol == 0) {
-        return workspaces::variable(w);
+fn declare(w: Workspace, i: u16, rng: &mut Rng) -> Workspace {
+    let symbol = rng.below(3);
+    let a = rng.below(i);
+    let b = rng.below(i);
+    if i < 2 || symbol == 0 {
+        return variable(w);
     }
-    workspaces::functor(w, low16(symbol), &children)
+    functor(w, symbol, &[a, b])
 }
 
-fn declared(tally: &mut [usize]) -> Workspace {
-    let mut now = Workspace::fresh();
-    let mut i: usize = 0;
-    while i < 9 {
-        let next = declare(now, i, tally);
-        now = next;
-        i += 1;
+fn declared(rng: &mut Rng) -> Workspace {
+    let mut w = Workspace::fresh();
+    for i in 0..9 {
+        w = declare(w, i, rng);
     }
-    now
+    w
 }
 
 // An equation and a comparison in turn.
-fn round(tally: &mut [usize], proof: &mut [u8]) {
-    let mut now = declared(tally);
-    let mut name: usize = 0;
-    while name < 8 {
-        let next = equate(now, name, tally, proof);
-        now = next;
-        compare(now, tally, proof);
-        name += 1;
+fn round(rng: &mut Rng, counts: &mut Counts, proof: &mut [u8]) {
+    let mut w = declared(rng);
+    for name in 0..8 {
+        w = equate(w, name, rng, counts, proof);
+        compare(w, rng, counts, proof);
     }
 }
 
-fn rounds(tally: &mut [usize], proof: &mut [u8]) {
-    let mut i: usize = 0;
-    while i < 100 {
-        round(tally, proof);
-        i += 1;
-    }
+fn show(rt: &impl Print, counts: Counts) -> io::Result<()> {
+    println!(rt; "random workspaces, held: {}", counts.held)?;
+    println!(rt; "clash: {}", counts.clash)?;
+    println!(rt; "cycle: {}", counts.cycle)?;
+    println!(rt; "same: {}", counts.same)?;
+    println!(rt; "below: {}", counts.below)?;
+    println!(rt; "above: {}", counts.above)?;
+    println!(rt; "apart: {}", counts.apart)?;
+    println!(rt; "otherwise: {}", counts.otherwise)
 }
 
 pub fn all(rt: &impl Print, proof: &mut [u8]) -> io::Result<()> {
-    let mut tally = [0usize; 64];
-    rounds(&mut tally, proof);
-    print(
-        rt,
-        b"random workspaces, held: #\nclash: #\ncycle: #\n",
-        &tally,
-        replies::HELD,
-    )?;
-    tools::show(
-        rt,
-        b"same: #\nbelow: #\nabove: #\napart: #\n",
-        &tally,
-        replies::SAME,
-    )
+    let mut rng = Rng(0);
+    let mut counts = Counts::default();
+    for _ in 0..100 {
+        round(&mut rng, &mut counts, proof);
+    }
+    show(rt, counts)
 }

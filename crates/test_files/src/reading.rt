@@ -1,95 +1,69 @@
 // The line reader, by its struct's step and by the plain one.
-use super::tools;
-use proof_reader::{Found, NextLine};
+use proof_lines::{Fields, Line};
+use proof_reader::LineReader;
 use std::io;
-use test_solver::numbers::{byte, pair};
-use test_tools::{bytes, print, say};
 
-// Bytes, and the line that is read.
-const SIZES: [usize; 10] = [0, 7, 8, 8, 9, 15, 16, 16, 16, 16];
+// The fields of a line's bytes.
+fn fields(bytes: &[u8]) -> Option<Line> {
+    let [rule, place, a, b, c, d, e, f] = bytes else {
+        return None;
+    };
+    let fields = Fields {
+        rule: *rule,
+        place: *place,
+        first: u16::from_be_bytes([*a, *b]),
+        second: u16::from_be_bytes([*c, *d]),
+    };
+    let reserved = u16::from_be_bytes([*e, *f]);
+    Some(Line { fields, reserved })
+}
 
-const LINES: [usize; 10] = [0, 0, 0, 1, 1, 1, 1, 2, 5, 18446744073709551615];
-
-// The fields are those of line k's bytes and the next is k + 1; or there is no such line and the next is k.
-fn as_bytes(s: &[u8], k: usize, f: Found) -> bool {
-    let whole = k < s.len() / 8;
-    let o = k << 3;
-    let line = f.line;
-    match line {
-        NextLine::Fields {
-            rule,
-            place,
-            first,
-            second,
-            reserved,
-        } => {
-            let a = (rule as usize == byte(s, o)) & (place as usize == byte(s, o | 1));
-            let b = (first as usize == pair(s, o | 2)) & (second as usize == pair(s, o | 4));
-            let c = reserved as usize == pair(s, o | 6);
-            a & b & c & whole & (f.at == std::num::wrapping_add_usize(k, 1))
-        }
-        NextLine::End => !whole & (f.at == k),
+// Line k and the next number; or there is no such line, and the next is k.
+fn line(s: &[u8], k: usize) -> (Option<Line>, usize) {
+    match s.chunks_exact(8).nth(k).and_then(fields) {
+        Some(line) => (Some(line), k.saturating_add(1)),
+        None => (None, k),
     }
 }
 
 pub fn stands(s: &[u8], k: usize) -> bool {
-    as_bytes(s, k, proof_reader::read_line(s, k)) & as_bytes(s, k, proof_reader::step_at(s, k))
+    let owed = line(s, k);
+    let mut reader = LineReader { lines: s, at: k };
+    let stepped = reader.step();
+    (stepped, reader.at) == owed && proof_reader::read_line(s, k) == owed
 }
 
-// Every line, and three steps at the end.
+/// Every line, and three steps at the end.
 pub fn all_stand(s: &[u8]) -> bool {
     let n = s.len() / 8;
-    let mut ok = proof_reader::count_lines(s) == n;
-    let mut k: usize = 0;
-    while k < n + 3 {
-        ok = ok & stands(s, k);
-        k += 1;
-    }
-    ok
-}
-
-fn show(rt: &impl Print, f: Found) -> io::Result<()> {
-    let line = f.line;
-    match line {
-        NextLine::Fields {
-            rule,
-            place,
-            first,
-            second,
-            reserved,
-        } => {
-            let n: [usize; 6] = [
-                rule as usize,
-                place as usize,
-                first as usize,
-                second as usize,
-                reserved as usize,
-                f.at,
-            ];
-            print(
-                rt,
-                b": rule #, place #, first #, second #, reserved #; then line #",
-                &n,
-                0,
-            )
-        }
-        NextLine::End => say(rt, b": the end; still line #", f.at),
-    }
+    proof_reader::count_lines(s) == n && (0..n + 3).all(|k| stands(s, k))
 }
 
 fn step(rt: &impl Print, s: &[u8], k: usize) -> io::Result<()> {
-    let n: [usize; 3] = [proof_reader::count_lines(s), s.len(), k];
-    print(rt, b"# lines in # bytes, line #", &n, 0)?;
-    show(rt, proof_reader::read_line(s, k))?;
-    tools::told(rt, stands(s, k), b"\n", 0)
+    let count = proof_reader::count_lines(s);
+    print!(rt; "{count} lines in {} bytes, line {k}: ", s.len())?;
+    if !stands(s, k) {
+        return println!(rt; "otherwise");
+    }
+    match proof_reader::read_line(s, k) {
+        (Some(l), next) => println!(rt;
+            "rule {}, place {}, first {}, second {}, reserved {}; then line {next}",
+            l.fields.rule, l.fields.place, l.fields.first, l.fields.second, l.reserved
+        ),
+        (None, next) => println!(rt; "the end; still line {next}"),
+    }
 }
 
 pub fn all(rt: &impl Print) -> io::Result<()> {
-    let s: [u8; 16] = [1, 2, 3, 4, 5, 6, 7, 8, 255, 0, 255, 255, 0, 255, 255, 255];
-    let mut k: usize = 0;
-    while k < 10 {
-        step(rt, bytes::part(&s, 0, SIZES[k]), LINES[k])?;
-        k += 1;
-    }
-    Ok(())
+    let s = [1, 2, 3, 4, 5, 6, 7, 8, 255, 0, 255, 255, 0, 255, 255, 255];
+    step(rt, &s[..0], 0)?;
+    step(rt, &s[..7], 0)?;
+    step(rt, &s[..8], 0)?;
+    step(rt, &s[..8], 1)?;
+    step(rt, &s[..9], 1)?;
+    step(rt, &s[..15], 1)?;
+    step(rt, &s, 1)?;
+    step(rt, &s, 2)?;
+    step(rt, &s, 5)?;
+    step(rt, &s, usize::MAX)
 }

@@ -1,4 +1,4 @@
-// The unmarked examples of document 01, at its limits, class numbers, numbers of children, and damaged workspaces.
+// Examples at the limits, class numbers, numbers of children, and damaged workspaces.
 #![tactic(auto)]
 
 mod arities; // refusal 18
@@ -7,15 +7,15 @@ mod damaged; // workspaces with one bad field
 mod edges; // 64 nodes, 256 equations, 8,192 lines, 65,536 bytes
 
 use std::io;
+use test_tools::bytes::FILLER;
 
 fn main(rt: HostRuntime) -> io::Result<()> {
-    let mut buf = [165u8; 65536];
-    let mut lines = [0u8; 65544];
+    let mut proof = [FILLER; 65536];
     edges::nodes(&rt)?;
-    edges::equations(&rt, &mut buf)?;
-    edges::lines(&rt, &mut lines)?;
-    edges::buffers(&rt, &mut buf)?;
+    edges::equations(&rt, &mut proof)?;
+    edges::lines(&rt)?;
+    edges::buffers(&rt, &mut proof)?;
     classes::all(&rt)?;
     arities::all(&rt)?;
-    damaged::all(&rt, &mut buf)
+    damaged::all(&rt, &mut proof)
 }

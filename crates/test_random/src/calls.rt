@@ -1,201 +1,148 @@
 // The calls that change the workspace, each held against the book and the other solver.
-use super::{counts, picks, proofs};
-use test_solver::checker::Question;
-use test_solver::numbers::{add, get, put};
-use test_solver::{book, closure};
-use test_tools::bytes::low16;
-use test_tools::{replies, workspaces};
-use unifier::{Outcome, Workspace};
+use super::picks::Change;
+use super::run::Run;
+use refusals::Refusal;
+use test_solver::book::{Equation, Functor, Node};
+use test_solver::checker::{Goal, Question};
+use test_solver::closure::Closure;
+use test_tools::replies::{Answer, Reply};
 
-// The reply is the one that is owed.
-fn told(o: Outcome, m: &mut [usize], owed: usize) -> Workspace {
-    let r = o.reply;
-    counts::replied(m, replies::changed(r), owed);
-    o.workspace
-}
+impl Run {
+    // A node more, in the library and in the book.
+    fn declared(&mut self, a: Answer, node: Node) {
+        let n = self.book.nodes.len();
+        self.told(a, Reply::Node(n as u8));
+        self.book.declare(node);
+        self.solve();
+    }
 
-fn variable(w: Workspace, m: &mut [usize]) -> Workspace {
-    let n = get(m, book::NODES);
-    if 64 <= n {
-        return told(w.declare_variable(), m, 2);
+    fn variable(&mut self) {
+        let a = Answer::node(self.workspace.declare_variable());
+        if self.book.nodes.is_full() {
+            self.told(a, Reply::Refused(Refusal::NodesFull));
+        } else {
+            self.declared(a, Node::Variable);
+        }
     }
-    add(m, book::NODES, 1);
-    closure::solve(m, 0, 0);
-    told(w.declare_variable(), m, replies::NODE | n)
-}
 
-fn functor_owed(m: &[usize], symbol: usize, children: &[u16]) -> usize {
-    let n = get(m, book::NODES);
-    if 64 <= n {
-        return 2;
+    fn functor_owed(&self, symbol: u16, children: &[u16]) -> Result<Functor, Refusal> {
+        if self.book.nodes.is_full() {
+            return Err(Refusal::NodesFull);
+        }
+        if 4 < children.len() {
+            return Err(Refusal::TooManyChildren);
+        }
+        if !self.book.knows_all(children) {
+            return Err(Refusal::UnknownNode);
+        }
+        let arity = self.book.arity_of(symbol);
+        if arity.is_some_and(|k| k != children.len()) {
+            return Err(Refusal::OtherArity);
+        }
+        Ok(Functor::new(symbol, children))
     }
-    if 4 < children.len() {
-        return 3;
-    }
-    if !book::knows_all(m, children) {
-        return 4;
-    }
-    if book::arity_of(m, symbol, children.len()) != children.len() {
-        return 18;
-    }
-    replies::NODE | n
-}
 
-fn functor_of(w: Workspace, m: &mut [usize], symbol: usize, children: &[u16]) -> Workspace {
-    let owed = functor_owed(m, symbol, children);
-    let next = told(w.declare_functor(low16(symbol), children), m, owed);
-    if replies::NODE <= owed {
-        book::put_functor(m, symbol, children);
-        closure::solve(m, 0, 0);
+    fn functor(&mut self) {
+        let eight = self.children();
+        let symbol = self.symbol();
+        let children = &eight[..self.arity(symbol)];
+        let a = Answer::node(self.workspace.declare_functor(symbol, children));
+        match self.functor_owed(symbol, children) {
+            Ok(f) => self.declared(a, Node::Functor(f)),
+            Err(r) => self.told(a, Reply::Refused(r)),
+        }
     }
-    next
-}
 
-fn front(s: &[u16], n: usize) -> &[u16] {
-    if n <= s.len() { &s[0..n] } else { s }
-}
+    // The first of refusals 5, 4, 6 and 7 that applies.
+    fn early(&self, e: Equation, room: usize) -> Option<Refusal> {
+        if room < 65536 {
+            return Some(Refusal::ShortBuffer);
+        }
+        if !self.book.knows(e.left) || !self.book.knows(e.right) {
+            return Some(Refusal::UnknownNode);
+        }
+        if self.book.find(e.name).is_some() {
+            return Some(Refusal::NameHeld);
+        }
+        self.book.held.is_full().then_some(Refusal::EquationsFull)
+    }
 
-fn functor(w: Workspace, m: &mut [usize]) -> Workspace {
-    let mut children = [0u16; 8];
-    picks::children(m, &mut children);
-    let symbol = picks::symbol(m);
-    let k = picks::arity(m, symbol);
-    functor_of(w, m, symbol, front(&children, k))
-}
+    fn verdict(&self) -> Reply {
+        if self.closure.shows(Goal::Clash) {
+            Reply::Clash
+        } else if self.closure.shows(Goal::Cycle) {
+            Reply::Cycle
+        } else {
+            Reply::Held
+        }
+    }
 
-// The first of refusals 5, 4, 6 and 7 that applies, or 0.
-fn early(m: &[usize], x: Question, room: usize) -> usize {
-    let n = get(m, book::NODES);
-    let held = get(m, book::HELD);
-    if room < 65536 {
-        return 5;
+    // A new entry in the book, maybe at a place that was freed.
+    fn take(&mut self, e: Equation) {
+        self.book.hold(e);
+        if 0 < self.round.freed {
+            self.round.freed -= 1;
+            self.counts.again();
+        }
     }
-    if (n <= x.left) | (n <= x.right) {
-        return 4;
-    }
-    if book::find(m, x.name) < held {
-        return 6;
-    }
-    if 256 <= held {
-        return 7;
-    }
-    0
-}
 
-fn verdict(m: &[usize]) -> usize {
-    if get(m, closure::CLASHES) == 1 {
-        return replies::CLASH;
+    // Once refusals 5, 4, 6 and 7 are past: the closure decides, and a refusal has its proof.
+    fn decided(&mut self, a: Answer, e: Equation) {
+        self.closure = Closure::of(&self.book, Some(e));
+        let owed = self.verdict();
+        self.told(a, owed);
+        match owed.goal(e.left, e.right) {
+            Some(goal) => {
+                let offer = Some(e);
+                self.audit(a.proof, Question { offer, goal }, 4);
+            }
+            None => self.take(e),
+        }
+        self.solve();
     }
-    if get(m, closure::CYCLES) == 1 {
-        return replies::CYCLE;
+
+    fn equate(&mut self) {
+        let e = self.equation();
+        let room = self.room();
+        let w = self.workspace;
+        let a = Answer::held(w.equate(e.name, e.left, e.right, &mut self.proof[..room]));
+        match self.early(e, room) {
+            Some(r) => self.told(a, Reply::Refused(r)),
+            None => self.decided(a, e),
+        }
     }
-    replies::HELD
-}
 
-fn equate_in(w: Workspace, x: Question, proof: &mut [u8], room: usize) -> Outcome {
-    let name = low16(x.name);
-    let u = low16(x.left);
-    let v = low16(x.right);
-    if room <= proof.len() {
-        return w.equate(name, u, v, &mut proof[0..room]);
+    // The equation of that name goes, if there is one. Tells the reply that is owed.
+    fn strike(&mut self, name: u16) -> Reply {
+        if self.book.strike(name).is_none() {
+            return Reply::Refused(Refusal::NameNotHeld);
+        }
+        self.round.freed = self.round.freed.saturating_add(1);
+        self.solve();
+        Reply::Gone
     }
-    w.equate(name, u, v, proof)
-}
 
-// A new entry in the book, maybe at a place that was freed.
-fn take(m: &mut [usize], x: Question) {
-    book::hold(m, x.name, x.left, x.right);
-    let freed = get(m, picks::FREED);
-    if 0 < freed {
-        put(m, picks::FREED, freed - 1);
-        add(m, counts::AGAIN, 1);
+    fn withdraw(&mut self) {
+        let name = self.withdrawn();
+        let owed = self.strike(name);
+        let a = Answer::gone(self.workspace.withdraw(name));
+        self.told(a, owed);
     }
-}
 
-// Once refusals 5, 4, 6 and 7 are past: the closure decides, and a refusal has its proof.
-fn decided(w: Workspace, m: &mut [usize], proof: &mut [u8], x: Question, room: usize) -> Workspace {
-    let owed = verdict(m);
-    let o = equate_in(w, x, proof, room);
-    let r = o.reply;
-    let next = told(o, m, owed);
-    if owed == replies::HELD {
-        take(m, x);
-    } else {
-        let asked = replies::shown(x, owed, 0, 0);
-        proofs::audit(next, m, proof, replies::changed_bytes(r), asked, 4);
+    pub fn change(&mut self) {
+        match self.pick_change() {
+            Change::Variable => self.variable(),
+            Change::Functor => self.functor(),
+            Change::Equate => self.equate(),
+            Change::Withdraw => self.withdraw(),
+        }
     }
-    next
-}
 
-fn equate_known(
-    w: Workspace,
-    m: &mut [usize],
-    proof: &mut [u8],
-    x: Question,
-    room: usize,
-) -> Workspace {
-    closure::solve(m, x.left, x.right);
-    let next = decided(w, m, proof, x, room);
-    closure::solve(m, 0, 0);
-    next
-}
-
-fn equate_of(
-    w: Workspace,
-    m: &mut [usize],
-    proof: &mut [u8],
-    x: Question,
-    room: usize,
-) -> Workspace {
-    let owed = early(m, x, room);
-    if owed == 0 {
-        return equate_known(w, m, proof, x, room);
+    pub fn clear(&mut self) {
+        self.workspace = self.workspace.clear();
+        self.book.clear();
+        self.solve();
+        self.counts.cleared();
+        self.tell_workspace();
     }
-    told(equate_in(w, x, proof, room), m, owed)
-}
-
-fn equate(w: Workspace, m: &mut [usize], proof: &mut [u8]) -> Workspace {
-    let x = picks::equation(m);
-    let room = picks::room(m);
-    equate_of(w, m, proof, x, room)
-}
-
-// The equation at place k goes, if there is one. Tells the reply that is owed.
-fn strike(m: &mut [usize], k: usize) -> usize {
-    if k < get(m, book::HELD) {
-        add(m, picks::FREED, 1);
-        book::strike(m, k);
-        closure::solve(m, 0, 0);
-        return replies::GONE;
-    }
-    10
-}
-
-fn withdraw(w: Workspace, m: &mut [usize]) -> Workspace {
-    let name = picks::withdrawn(m);
-    let owed = strike(m, book::find(m, name));
-    told(w.withdraw(low16(name)), m, owed)
-}
-
-pub fn change(w: Workspace, m: &mut [usize], proof: &mut [u8]) -> Workspace {
-    let k = picks::which(m);
-    if k < 12 {
-        return variable(w, m);
-    }
-    if k < 50 {
-        return functor(w, m);
-    }
-    if k < 90 {
-        return equate(w, m, proof);
-    }
-    withdraw(w, m)
-}
-
-pub fn clear(w: Workspace, m: &mut [usize]) -> Workspace {
-    let next = w.clear();
-    book::clear(m);
-    closure::solve(m, 0, 0);
-    counts::called(m, counts::CLEARED);
-    counts::expect(m, workspaces::agrees(next, m));
-    next
 }

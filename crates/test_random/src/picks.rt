@@ -1,212 +1,249 @@
-// What is random. Of the present round there stand at place MOST how many nodes to declare, at SYMBOLS how many symbols, at PILE whether
-// equations are mostly between nodes that are same already, at FREED how many places a withdrawal freed, at SALT what the symbols' numbers
-// of children depend on, at SPREAD whether all symbols leave one remainder by 64.
-use test_solver::checker::Question;
-use test_solver::numbers::{get, put};
-use test_solver::{book, checker, closure};
-use test_tools::bytes::{fill, low8, low16, set};
-use test_tools::{draw, one_in};
+// What is random.
+ghost use Rattle.std.specs.Prelude.{◌≤◌, ◌-◌};
 
-const MOST: usize = 65;
+use super::run::Run;
+use test_solver::book::Equation;
+use test_solver::checker::{Claim, Goal};
+use test_tools::random::Rng;
 
-const SYMBOLS: usize = 66;
-
-const PILE: usize = 67;
-
-pub const FREED: usize = 68;
-
-const SALT: usize = 69;
-
-const SPREAD: usize = 70;
-
-fn more(m: &mut [usize], least: usize, n: usize) -> usize {
-    std::num::wrapping_add_usize(least, draw(m, n))
+/// What a round's graph and equations are like.
+#[derive(Clone, Copy, Default)]
+pub struct Round {
+    /// How many nodes to declare.
+    most: u16,
+    symbols: u8,
+    /// What the symbols' numbers of children depend on.
+    salt: u8,
+    /// Whether all symbols leave one remainder by 64.
+    spread: bool,
+    /// Whether equations are mostly between nodes that are same already.
+    pile: bool,
+    /// How many places a withdrawal freed.
+    pub freed: usize,
 }
 
-// What a round's symbols are like.
-fn labels(m: &mut [usize]) {
-    let symbols = more(m, 1, 8);
-    put(m, SYMBOLS, symbols);
-    let salt = draw(m, 5);
-    put(m, SALT, salt);
-    let spread = draw(m, 3);
-    put(m, SPREAD, spread);
-}
-
-// What a round's graph and equations are like. Tells how many calls it has.
-pub fn settings(m: &mut [usize]) -> usize {
-    let most = more(m, 4, 61);
-    put(m, MOST, most);
-    labels(m);
-    let pile = draw(m, 4);
-    put(m, PILE, pile);
-    put(m, FREED, 0);
-    if pile == 1 {
-        return 600;
+impl Round {
+    pub fn draw(rng: &mut Rng) -> Round {
+        let most = 4 + rng.below(61) as u16;
+        let symbols = 1 + rng.below(8) as u8;
+        let salt = rng.below(5) as u8;
+        let spread = rng.one_in(3);
+        let pile = rng.below(4) == 1;
+        Round {
+            most,
+            symbols,
+            salt,
+            spread,
+            pile,
+            freed: 0,
+        }
     }
-    more(m, 40, 160)
-}
 
-// Which call, by its share of a hundred: where the round has its nodes, few declarations.
-pub fn which(m: &mut [usize]) -> usize {
-    let k = draw(m, 100);
-    let declare = one_in(m, 16) | (get(m, book::NODES) < get(m, MOST));
-    if (k < 50) & !declare {
-        return 50;
+    /// How many calls it has.
+    pub fn calls(&self, rng: &mut Rng) -> usize {
+        if self.pile { 600 } else { 40 + rng.below(160) }
     }
-    k
 }
 
-// Mostly a node that was declared.
-pub fn node(m: &mut [usize]) -> usize {
-    let n = get(m, book::NODES);
-    if one_in(m, 48) {
-        let u = more(m, n, 4);
-        if one_in(m, 4) {
+/// A call that changes the workspace.
+#[derive(Clone, Copy)]
+pub enum Change {
+    Variable,
+    Functor,
+    Equate,
+    Withdraw,
+}
+
+// A field of a line.
+fn field(rng: &mut Rng, n: u8) -> u8
+    ensures { result ≤ n - 1 }
+{
+    rng.below(usize::from(n)) as u8
+}
+
+// Small fields, where the rule uses them.
+fn line(rng: &mut Rng) -> [u8; 8] {
+    let rule = field(rng, 8);
+    let place = if 5 < rule { field(rng, 3) } else { 0 };
+    let first = field(rng, 6);
+    let second = if rule == 5 { field(rng, 4) } else { 0 };
+    [rule, place, 0, first, 0, second, 0, 0]
+}
+
+impl Run {
+    /// How many nodes there are.
+    pub fn count(&self) -> u16
+        ensures { result ≤ 64 }
+    {
+        self.book.nodes.len() as u16
+    }
+
+    /// By its share of a hundred: where the round has its nodes, few declarations.
+    pub fn pick_change(&mut self) -> Change {
+        let k = self.rng.below(100);
+        let declare = self.rng.one_in(16) | (self.count() < self.round.most);
+        match k {
+            0..12 if declare => Change::Variable,
+            12..50 if declare => Change::Functor,
+            0..90 => Change::Equate,
+            _ => Change::Withdraw,
+        }
+    }
+
+    // A node that was declared.
+    fn known(&mut self) -> u16
+        ensures { result ≤ 63 }
+    {
+        let n = usize::from(self.count());
+        self.rng.below(n) as u16
+    }
+
+    /// Mostly a node that was declared.
+    pub fn node(&mut self) -> u16 {
+        if !self.rng.one_in(48) {
+            return self.known();
+        }
+        let u = self.count() + self.rng.below(4) as u16;
+        if self.rng.one_in(4) { 65535 } else { u }
+    }
+
+    /// One in `used` is a held name.
+    pub fn name(&mut self, used: usize) -> u16 {
+        let held = self.book.held.as_slice();
+        if self.rng.one_in(used) && !held.is_empty() {
+            return held[self.rng.below(held.len())].name;
+        }
+        self.rng.below(65536) as u16
+    }
+
+    pub fn withdrawn(&mut self) -> u16 {
+        if self.rng.one_in(8) {
+            return self.name(65536);
+        }
+        self.name(1)
+    }
+
+    /// How many bytes of the buffer are lent.
+    pub fn room(&mut self) -> usize
+        ensures { result ≤ 65600 }
+    {
+        if self.rng.one_in(32) {
+            return match self.rng.below(3) {
+                0 => 0,
+                1 => 8,
+                _ => 65535,
+            };
+        }
+        if self.rng.one_in(2) { 65536 } else { 65600 }
+    }
+
+    // The other end of an equation.
+    fn mate(&mut self, u: u16) -> u16 {
+        let k = self.rng.below(8);
+        if k < 2 || (k < 7 && self.round.pile) {
+            let from = self.known();
+            return self.closure.mate(u, from);
+        }
+        self.node()
+    }
+
+    pub fn equation(&mut self) -> Equation {
+        let left = self.node();
+        let right = self.mate(left);
+        let name = self.name(32);
+        Equation { name, left, right }
+    }
+
+    // Of two draws the later node, so that graphs grow deep.
+    fn child(&mut self) -> u16 {
+        let known = self.known();
+        known.max(self.node())
+    }
+
+    /// More children than any symbol has.
+    pub fn children(&mut self) -> [u16; 8] {
+        let mut children = [0; 8];
+        for child in children.iter_mut() {
+            *child = self.child();
+        }
+        children
+    }
+
+    pub fn symbol(&mut self) -> u16 {
+        if self.rng.one_in(64) {
             return 65535;
         }
-        return u;
+        let k = self.rng.below(usize::from(self.round.symbols));
+        let symbol = if self.round.spread { 64 * k } else { k };
+        symbol as u16
     }
-    draw(m, n)
-}
 
-// One in `used` is a held name.
-pub fn name(m: &mut [usize], used: usize) -> usize {
-    let held = get(m, book::HELD);
-    if one_in(m, used) & (0 < held) {
-        let k = draw(m, held);
-        return get(m, book::NAME | k);
+    /// Mostly the number of children that the round has for the symbol; one in 16 is another.
+    pub fn arity(&mut self, symbol: u16) -> usize
+        ensures { result ≤ 7 }
+    {
+        if self.rng.one_in(40) {
+            return 5 + self.rng.below(3);
+        }
+        if self.rng.one_in(16) {
+            return self.rng.below(5);
+        }
+        (usize::from(symbol) + usize::from(self.round.salt)) % 5
     }
-    draw(m, 65536)
-}
 
-pub fn withdrawn(m: &mut [usize]) -> usize {
-    if one_in(m, 8) {
-        return name(m, 65536);
+    /// Three lines at the front of the buffer.
+    pub fn lines(&mut self) {
+        let first = line(&mut self.rng);
+        let second = line(&mut self.rng);
+        let third = line(&mut self.rng);
+        self.proof[..8].copy_from_slice(&first);
+        self.proof[8..16].copy_from_slice(&second);
+        self.proof[16..24].copy_from_slice(&third);
     }
-    name(m, 1)
-}
 
-fn small_room(k: usize) -> usize {
-    match k {
-        0 => 0,
-        1 => 8,
-        _ => 65535,
+    /// How many bytes of them are asked for.
+    pub fn length(&mut self) -> usize
+        ensures { result ≤ 65544 }
+    {
+        match self.rng.below(12) {
+            0 => 0,
+            1 => 9,
+            2 => 65544,
+            3 => 24,
+            4 => 16,
+            _ => 8,
+        }
     }
-}
 
-pub fn room(m: &mut [usize]) -> usize {
-    if one_in(m, 32) {
-        return small_room(draw(m, 3));
+    /// Mostly of the nodes u and v.
+    pub fn goal(&mut self, u: u16, v: u16) -> Goal {
+        let other = self.rng.below(6) as u16;
+        match self.rng.below(5) {
+            0 => Goal::Clash,
+            1 => Goal::Cycle,
+            2 => Goal::Claim(Claim::same(u, v)),
+            3 => Goal::Claim(Claim::same(other, other)),
+            _ => Goal::Claim(Claim::below(u, v)),
+        }
     }
-    if one_in(m, 2) { 65536 } else { 65600 }
-}
 
-// The other end of an equation.
-fn mate(m: &mut [usize], u: usize) -> usize {
-    let k = draw(m, 8);
-    if (k < 2) | ((k < 7) & (get(m, PILE) == 1)) {
-        let n = get(m, book::NODES);
-        let from = draw(m, n);
-        return closure::mate(m, u, from);
+    /// Another byte.
+    pub fn other(&mut self, old: u8) -> u8 {
+        if self.rng.one_in(2) {
+            let small = field(&mut self.rng, 8);
+            return if small == old { old ^ 1 } else { small };
+        }
+        old ^ (1 + field(&mut self.rng, 255))
     }
-    node(m)
-}
 
-pub fn equation(m: &mut [usize]) -> Question {
-    let left = node(m);
-    let right = mate(m, left);
-    checker::offering(true, name(m, 32), left, right)
-}
-
-// Of two draws the later node, so that graphs grow deep.
-fn child(m: &mut [usize]) -> usize {
-    let n = get(m, book::NODES);
-    let a = draw(m, n);
-    let b = node(m);
-    if b < a { a } else { b }
-}
-
-pub fn children(m: &mut [usize], out: &mut [u16]) {
-    let mut j: usize = 0;
-    while j < out.len() {
-        out[j] = low16(child(m));
-        j += 1;
-    }
-}
-
-// Mostly the number of children that the round has for the symbol; one in 16 is another.
-pub fn arity(m: &mut [usize], symbol: usize) -> usize {
-    if one_in(m, 40) {
-        return more(m, 5, 3);
-    }
-    if one_in(m, 16) {
-        return draw(m, 5);
-    }
-    std::num::wrapping_add_usize(symbol, get(m, SALT)) % 5
-}
-
-pub fn symbol(m: &mut [usize]) -> usize {
-    if one_in(m, 64) {
-        return 65535;
-    }
-    let k = draw(m, get(m, SYMBOLS));
-    if get(m, SPREAD) == 0 { k << 6 } else { k }
-}
-
-// A small field, where the rule uses it.
-fn field(m: &mut [usize], on: bool, n: usize) -> u8 {
-    if on {
-        return low8(draw(m, n));
-    }
-    0
-}
-
-fn line(m: &mut [usize], lines: &mut [u8], at: usize) {
-    let rule = field(m, true, 8);
-    let place = field(m, 5 < rule, 3);
-    let first = field(m, true, 6);
-    let second = field(m, rule == 5, 4);
-    set(lines, at, rule);
-    set(lines, at | 1, place);
-    set(lines, at | 3, first);
-    set(lines, at | 5, second);
-}
-
-pub fn lines(m: &mut [usize], lines: &mut [u8]) {
-    fill(lines, 0, 24, 0);
-    line(m, lines, 0);
-    line(m, lines, 8);
-    line(m, lines, 16);
-}
-
-// Whether an equation is offered, and which.
-pub fn offer(m: &mut [usize]) -> Question {
-    let u = node(m);
-    let v = node(m);
-    let name = name(m, 8);
-    checker::offering(one_in(m, 2), name, v, u)
-}
-
-// A goal, mostly of the nodes of the offer.
-pub fn goal(m: &mut [usize], x: Question) -> Question {
-    let u = draw(m, 6);
-    let k = draw(m, 5);
-    match k {
-        3 => checker::asking(x, checker::SAME, u, u),
-        4 => checker::asking(x, checker::BELOW, x.right, x.left),
-        _ => checker::asking(x, k, x.right, x.left),
-    }
-}
-
-pub fn length(m: &mut [usize]) -> usize {
-    let k = draw(m, 12);
-    match k {
-        0 => 0,
-        1 => 9,
-        2 => 65544,
-        3 => 24,
-        4 => 16,
-        _ => 8,
+    /// A byte of a proof: of any line, or of one of the last four.
+    pub fn some_place(&mut self, n: usize) -> usize
+        ensures { result ≤ n - 1 }
+    {
+        if self.rng.one_in(2) {
+            let back = self.rng.below(32);
+            return if back < n { n - 1 - back } else { 0 };
+        }
+        self.rng.below(n)
     }
 }

@@ -1,141 +1,114 @@
 // The calls that change nothing: compare, class and check, held against the book and the other solver.
-use super::{counts, picks, proofs};
-use test_solver::numbers::{get, has};
-use test_solver::{book, checker, closure};
-use test_tools::bytes::low16;
-use test_tools::{bytes, replies, workspaces};
-use unifier::{Compared, Workspace};
+ghost use Rattle.std.specs.Prelude.{◌≤◌};
 
-fn compare_owed(m: &[usize], u: usize, v: usize, room: usize) -> usize {
-    let n = get(m, book::NODES);
-    if room < 65536 {
-        return 5;
-    }
-    if (n <= u) | (n <= v) {
-        return 4;
-    }
-    if has(get(m, closure::SAME | u), v) {
-        return replies::SAME;
-    }
-    if has(get(m, closure::BELOW | u), v) {
-        return replies::BELOW;
-    }
-    if has(get(m, closure::BELOW | v), u) {
-        return replies::ABOVE;
-    }
-    replies::APART
-}
+use super::run::Run;
+use refusals::Refusal;
+use test_solver::book::Equation;
+use test_solver::checker::{Claim, Goal, Question};
+use test_tools::bytes::FILLER;
+use test_tools::replies::{Answer, Reply};
 
-fn compare_in(w: Workspace, u: usize, v: usize, proof: &mut [u8], room: usize) -> Compared {
-    let x = low16(u);
-    let y = low16(v);
-    if room <= proof.len() {
-        return w.compare(x, y, &mut proof[0..room]);
+impl Run {
+    fn compare_owed(&self, u: u16, v: u16, room: usize) -> Reply {
+        if room < 65536 {
+            return Reply::Refused(Refusal::ShortBuffer);
+        }
+        if !self.book.knows(u) || !self.book.knows(v) {
+            return Reply::Refused(Refusal::UnknownNode);
+        }
+        if self.closure.shows(Goal::Claim(Claim::same(u, v))) {
+            return Reply::Same;
+        }
+        if self.closure.shows(Goal::Claim(Claim::below(u, v))) {
+            return Reply::Below;
+        }
+        if self.closure.shows(Goal::Claim(Claim::below(v, u))) {
+            return Reply::Above;
+        }
+        Reply::Apart
     }
-    w.compare(x, y, proof)
-}
 
-// The reply is the one that is owed; a proof that came with it shows it, and without one the buffer is as it was.
-fn compare_of(
-    w: Workspace,
-    m: &mut [usize],
-    proof: &mut [u8],
-    u: usize,
-    v: usize,
-    room: usize,
-) -> Workspace {
-    let owed = compare_owed(m, u, v, room);
-    let o = compare_in(w, u, v, proof, room);
-    let r = o.reply;
-    let next = o.workspace;
-    counts::replied(m, replies::compared(r), owed);
-    if (owed < replies::SAME) | (owed == replies::APART) {
-        counts::expect(m, bytes::untouched(proof, 0));
-        return next;
+    // The reply is the one that is owed; a proof that came with it shows it, and without one the buffer is as it was.
+    fn compare_of(&mut self, u: u16, v: u16, room: usize)
+        requires { room ≤ 65600 }
+    {
+        let owed = self.compare_owed(u, v, room);
+        let w = self.workspace;
+        let a = Answer::stand(w.compare(u, v, &mut self.proof[..room]));
+        self.told(a, owed);
+        match owed.goal(u, v) {
+            Some(goal) => {
+                let offer = None;
+                self.audit(a.proof, Question { offer, goal }, 2);
+            }
+            None => self.tell_buffer(),
+        }
     }
-    let x = replies::shown(checker::offering(false, 0, 0, 0), owed, u, v);
-    proofs::audit(next, m, proof, replies::compared_bytes(r), x, 2);
-    next
-}
 
-pub fn compare(w: Workspace, m: &mut [usize], proof: &mut [u8]) -> Workspace {
-    let u = picks::node(m);
-    let v = picks::node(m);
-    let room = picks::room(m);
-    compare_of(w, m, proof, u, v, room)
-}
-
-// After a node's last pair the workspace is held against the book.
-fn agrees_after(w: Workspace, m: &mut [usize], v: usize) {
-    if v == 63 {
-        counts::expect(m, workspaces::agrees(w, m));
+    pub fn compare(&mut self) {
+        let u = self.node();
+        let v = self.node();
+        let room = self.room();
+        self.compare_of(u, v, room);
     }
-}
 
-// Pair number k, of 64 for each node.
-fn pair(w: Workspace, m: &mut [usize], proof: &mut [u8], k: usize) -> Workspace {
-    let v = k % 64;
-    agrees_after(w, m, v);
-    if v < get(m, book::NODES) {
-        return compare_of(w, m, proof, k >> 6, v, 65536);
+    fn compare_with_all(&mut self, u: u16) {
+        for v in 0..self.count() {
+            self.compare_of(u, v, 65536);
+        }
     }
-    w
-}
 
-pub fn pairs(w: Workspace, m: &mut [usize], proof: &mut [u8]) -> Workspace {
-    let n = get(m, book::NODES) << 6;
-    let mut now = w;
-    let mut k: usize = 0;
-    while k < n {
-        let next = pair(now, m, proof, k);
-        now = next;
-        k += 1;
+    /// Every pair of nodes. After a node's last pair the workspace is held against the book.
+    pub fn pairs(&mut self) {
+        for u in 0..self.count() {
+            self.compare_with_all(u);
+            self.tell_workspace();
+        }
     }
-    now
-}
 
-fn class_owed(m: &[usize], u: usize) -> usize {
-    if u < get(m, book::NODES) {
-        return replies::class_of(closure::number(m, u), closure::size(m, u));
+    fn class_owed(&self, u: u16) -> Reply {
+        if !self.book.knows(u) {
+            return Reply::Refused(Refusal::UnknownNode);
+        }
+        Reply::Class {
+            number: self.closure.number(&self.book, u),
+            size: self.closure.size(u),
+        }
     }
-    4
-}
 
-fn class(w: Workspace, m: &mut [usize], u: usize) -> Workspace {
-    let owed = class_owed(m, u);
-    let o = w.class_of(low16(u));
-    let r = o.reply;
-    counts::replied(m, replies::classified(r), owed);
-    o.workspace
-}
-
-fn class_of_known(w: Workspace, m: &mut [usize], u: usize) -> Workspace {
-    counts::shown(m, closure::variable_first(m, u));
-    class(w, m, u)
-}
-
-// Some node's class; then every node's, with the workspace after each.
-pub fn classes(w: Workspace, m: &mut [usize]) -> Workspace {
-    let some = picks::node(m);
-    let n = get(m, book::NODES);
-    let mut now = class(w, m, some);
-    let mut u: usize = 0;
-    while u < n {
-        let next = class_of_known(now, m, u);
-        now = next;
-        counts::expect(m, workspaces::agrees(now, m));
-        u += 1;
+    fn class(&mut self, u: u16) {
+        let owed = self.class_owed(u);
+        self.told(Answer::class(self.workspace.class_of(u)), owed);
     }
-    now
-}
 
-// Random lines, few of which pass.
-pub fn check(w: Workspace, m: &mut [usize], proof: &mut [u8]) {
-    let offer = picks::offer(m);
-    picks::lines(m, proof);
-    let n = picks::length(m);
-    let x = picks::goal(m, offer);
-    let code = proofs::ask(w, m, proof, n, x);
-    counts::called(m, code);
-    bytes::fill(proof, 0, 24, 165);
+    /// Some node's class; then every node's, with the workspace after each.
+    pub fn classes(&mut self) {
+        let some = self.node();
+        self.class(some);
+        for u in 0..self.count() {
+            self.counts
+                .shown(self.closure.variable_first(&self.book, u));
+            self.class(u);
+            self.tell_workspace();
+        }
+    }
+
+    /// Random lines, few of which pass.
+    pub fn check(&mut self) {
+        let u = self.node();
+        let v = self.node();
+        let name = self.name(8);
+        let e = Equation {
+            name,
+            left: v,
+            right: u,
+        };
+        let offer = self.rng.one_in(2).then_some(e);
+        self.lines();
+        let n = self.length();
+        let goal = self.goal(u, v);
+        let reply = self.ask(n, Question { offer, goal });
+        self.counts.called(reply);
+        self.proof[..24].fill(FILLER);
+    }
 }

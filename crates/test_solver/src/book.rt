@@ -1,140 +1,128 @@
-// The test's own book: two counts and seven columns, in which unused places are zero. Node u's children stand from CHILD + 4 u on.
-use super::numbers::{add, get, put};
+// The test's own book: the nodes that were declared and the equations that are held, each in the order taken.
+ghost use Rattle.std.specs.Prelude.{◌≤◌, length};
 
-pub const NODES: usize = 2048;
+use arrayvec::ArrayVec;
 
-pub const HELD: usize = 2049;
-
-pub const KIND: usize = 2112;
-
-pub const SYMBOL: usize = 2176;
-
-pub const ARITY: usize = 2240;
-
-pub const CHILD: usize = 2304;
-
-pub const NAME: usize = 2560;
-
-pub const LEFT: usize = 3072;
-
-pub const RIGHT: usize = 3584;
-
-pub const END: usize = 4096;
-
-// The child of u at a place from 1 on.
-pub fn child(m: &[usize], u: usize, place: usize) -> usize {
-    get(m, CHILD | (u << 2) | std::num::wrapping_sub_usize(place, 1))
+/// A symbol and its children, at most four.
+#[derive(Clone, Copy, PartialEq, Eq, Debug)]
+pub struct Functor {
+    pub symbol: u16,
+    children: [u16; 4],
+    arity: usize,
+    ghost few: { arity ≤ 4 },
 }
 
-pub fn both_functors(m: &[usize], u: usize, v: usize) -> bool {
-    (get(m, KIND | u) == 1) & (get(m, KIND | v) == 1)
-}
-
-pub fn equal_labels(m: &[usize], u: usize, v: usize) -> bool {
-    get(m, SYMBOL | u) == get(m, SYMBOL | v)
-}
-
-fn is_functor_of(m: &[usize], u: usize, symbol: usize) -> bool {
-    (get(m, KIND | u) == 1) & (get(m, SYMBOL | u) == symbol)
-}
-
-// How many children the first functor node of a symbol has, or `otherwise` where there is none.
-pub fn arity_of(m: &[usize], symbol: usize, otherwise: usize) -> usize {
-    let n = get(m, NODES);
-    let mut u: usize = 0;
-    while u < n {
-        if is_functor_of(m, u, symbol) {
-            return get(m, ARITY | u);
+impl Functor {
+    pub fn new(symbol: u16, children: &[u16]) -> Functor
+        requires { length children.now ≤ 4 }
+    {
+        let mut four = [0; 4];
+        four[..children.len()].copy_from_slice(children);
+        Functor {
+            symbol,
+            children: four,
+            arity: children.len(),
         }
-        u += 1;
     }
-    otherwise
+
+    pub fn children(&self) -> &[u16]
+        ensures { length result.now ≤ 4 }
+    {
+        &self.children[..self.arity]
+    }
+
+    /// The child at a place from 1 on.
+    pub fn child(&self, place: u8) -> Option<u16> {
+        let i = usize::from(place).checked_sub(1)?;
+        self.children().get(i).copied()
+    }
 }
 
-// The place of an equation, or how many are held.
-pub fn find(m: &[usize], name: usize) -> usize {
-    let held = get(m, HELD);
-    let mut k: usize = 0;
-    while k < held {
-        if get(m, NAME | k) == name {
-            return k;
+#[derive(Clone, Copy, PartialEq, Eq, Debug, Default)]
+pub enum Node {
+    #[default]
+    Variable,
+    Functor(Functor),
+}
+
+impl Node {
+    pub fn functor(&self) -> Option<Functor> {
+        match self {
+            Node::Variable => None,
+            Node::Functor(f) => Some(*f),
         }
-        k += 1;
-    }
-    held
-}
-
-pub fn clear(m: &mut [usize]) {
-    let mut i: usize = NODES;
-    while i < END {
-        put(m, i, 0);
-        i += 1;
     }
 }
 
-pub fn hold(m: &mut [usize], name: usize, u: usize, v: usize) {
-    let k = get(m, HELD);
-    put(m, NAME | k, name);
-    put(m, LEFT | k, u);
-    put(m, RIGHT | k, v);
-    add(m, HELD, 1);
+/// An equation between two nodes, held or offered.
+#[derive(Clone, Copy, PartialEq, Eq, Debug, Default)]
+pub struct Equation {
+    pub name: u16,
+    pub left: u16,
+    pub right: u16,
 }
 
-fn wide(x: u16) -> usize {
-    x as usize
+#[derive(Drop)]
+pub struct Book {
+    pub nodes: ArrayVec<Node, 64>,
+    pub held: ArrayVec<Equation, 256>,
 }
 
-// The j-th of the children, or zero.
-fn listed(children: &[u16], j: usize) -> usize {
-    if j < children.len() {
-        wide(children[j])
-    } else {
-        0
+impl Book {
+    pub fn new() -> Book {
+        Book {
+            nodes: ArrayVec::new(),
+            held: ArrayVec::new(),
+        }
     }
-}
 
-fn knows(children: &[u16], j: usize, n: usize) -> bool {
-    (children.len() <= j) | (listed(children, j) < n)
-}
-
-// Whether the children, at most four, are nodes.
-pub fn knows_all(m: &[usize], children: &[u16]) -> bool {
-    let n = get(m, NODES);
-    let two = knows(children, 0, n) & knows(children, 1, n);
-    two & knows(children, 2, n) & knows(children, 3, n)
-}
-
-fn adopt(m: &mut [usize], n: usize, children: &[u16], j: usize) {
-    put(m, CHILD | (n << 2) | j, listed(children, j));
-}
-
-pub fn put_functor(m: &mut [usize], symbol: usize, children: &[u16]) {
-    let n = get(m, NODES);
-    put(m, KIND | n, 1);
-    put(m, SYMBOL | n, symbol);
-    put(m, ARITY | n, children.len());
-    adopt(m, n, children, 0);
-    adopt(m, n, children, 1);
-    adopt(m, n, children, 2);
-    adopt(m, n, children, 3);
-    add(m, NODES, 1);
-}
-
-// What stands at the next place.
-fn pull(m: &mut [usize], at: usize) {
-    let next = get(m, std::num::wrapping_add_usize(at, 1));
-    put(m, at, next);
-}
-
-// Equation k goes, and the later ones move down. After each column's 256 places there is a zero.
-pub fn strike(m: &mut [usize], k: usize) {
-    let mut i = k;
-    while i < 256 {
-        pull(m, NAME | i);
-        pull(m, LEFT | i);
-        pull(m, RIGHT | i);
-        i += 1;
+    pub fn clear(&mut self) {
+        self.nodes.clear();
+        self.held.clear();
     }
-    let held = get(m, HELD);
-    put(m, HELD, std::num::wrapping_sub_usize(held, 1));
+
+    /// A node more, unless there are 64.
+    pub fn declare(&mut self, node: Node) {
+        let _ = self.nodes.try_push(node);
+    }
+
+    /// An equation more, unless there are 256.
+    pub fn hold(&mut self, e: Equation) {
+        let _ = self.held.try_push(e);
+    }
+
+    /// Takes out the equation of that name, if there is one.
+    pub fn strike(&mut self, name: u16) -> Option<Equation> {
+        let k = self.held.as_slice().iter().position(|e| e.name == name)?;
+        self.held.pop_at(k)
+    }
+
+    pub fn find(&self, name: u16) -> Option<Equation> {
+        self.held
+            .as_slice()
+            .iter()
+            .find(|e| e.name == name)
+            .copied()
+    }
+
+    pub fn knows(&self, u: u16) -> bool {
+        usize::from(u) < self.nodes.len()
+    }
+
+    pub fn knows_all(&self, nodes: &[u16]) -> bool {
+        nodes.iter().all(|u| self.knows(*u))
+    }
+
+    /// The symbol and children of a functor node.
+    pub fn functor(&self, u: u16) -> Option<Functor> {
+        self.nodes.as_slice().get(usize::from(u))?.functor()
+    }
+
+    /// How many children the first functor node of a symbol has.
+    pub fn arity_of(&self, symbol: u16) -> Option<usize> {
+        let mut functors = self.nodes.as_slice().iter().filter_map(|n| n.functor());
+        functors
+            .find(|f| f.symbol == symbol)
+            .map(|f| f.children().len())
+    }
 }

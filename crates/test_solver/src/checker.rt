@@ -1,264 +1,221 @@
-// The other checker. A claim is a number: 4096 for below, 64 times the start, the end; that of line i stands at place CLAIM + i.
-use super::book::child;
-use super::numbers::{byte, get, has, pair, put};
-use super::{book, closure};
+// The other checker.
+use super::book::{Book, Equation};
+use arrayvec::ArrayVec;
 
-const CLAIM: usize = 8192;
+#[derive(Clone, Copy, PartialEq, Eq, Debug, Default)]
+pub enum Relation {
+    #[default]
+    Same,
+    Below,
+}
 
-// What no line claims.
-const BROKEN: usize = 8192;
+/// That `start` is same as `end`, or has `end` below it.
+#[derive(Clone, Copy, PartialEq, Eq, Debug, Default)]
+pub struct Claim {
+    pub relation: Relation,
+    pub start: u16,
+    pub end: u16,
+}
 
-// Goals.
-pub const CLASH: usize = 0;
+impl Claim {
+    pub fn same(start: u16, end: u16) -> Claim {
+        Claim {
+            relation: Relation::Same,
+            start,
+            end,
+        }
+    }
 
-pub const CYCLE: usize = 1;
+    pub fn below(start: u16, end: u16) -> Claim {
+        Claim {
+            relation: Relation::Below,
+            start,
+            end,
+        }
+    }
 
-pub const SAME: usize = 2;
+    // This, and then that.
+    fn then(self, next: Claim) -> Option<Claim> {
+        if self.end != next.start {
+            return None;
+        }
+        match (self.relation, next.relation) {
+            (Relation::Same, Relation::Same) => Some(Claim::same(self.start, next.end)),
+            _ => Some(Claim::below(self.start, next.end)),
+        }
+    }
+}
 
-pub const BELOW: usize = 3;
+/// What a proof is to show.
+#[derive(Clone, Copy, PartialEq, Eq, Debug)]
+pub enum Goal {
+    Clash,
+    Cycle,
+    Claim(Claim),
+}
 
-// What `check` replies: passed, or a refusal's number, or BROKEN_AT and the line.
-pub const PASSED: usize = 47;
-
-pub const BROKEN_AT: usize = 16384;
-
-// What `check` is asked: an equation offered, where `on`, and a goal, which may be of two nodes.
-#[derive(Clone, Copy)]
+/// What a proof is checked for: its goal, over the held equations and the one that is offered.
+#[derive(Clone, Copy, PartialEq, Eq, Debug)]
 pub struct Question {
-    pub on: bool,
-    pub name: usize,
-    pub left: usize,
-    pub right: usize,
-    pub goal: usize,
-    pub u: usize,
-    pub v: usize,
+    pub offer: Option<Equation>,
+    pub goal: Goal,
 }
 
-// An offer, and no goal yet.
-pub fn offering(on: bool, name: usize, left: usize, right: usize) -> Question {
-    Question {
-        on,
-        name,
-        left,
-        right,
-        goal: CLASH,
-        u: left,
-        v: right,
-    }
+/// Why a proof does not pass.
+#[derive(Clone, Copy, PartialEq, Eq, Debug)]
+pub enum Fault {
+    UnknownNode,
+    NameHeld,
+    BadLength,
+    BrokenLine(u16),
+    NotShown,
 }
 
-pub fn asking(x: Question, goal: usize, u: usize, v: usize) -> Question {
-    Question {
-        on: x.on,
-        name: x.name,
-        left: x.left,
-        right: x.right,
-        goal,
-        u,
-        v,
-    }
-}
-
+// A line, by its rule.
 #[derive(Clone, Copy)]
-struct Line {
-    rule: usize,
-    place: usize,
-    first: usize,
-    second: usize,
-    reserved: usize,
+enum Line {
+    Equation(u16),
+    Child(u16, u8),
+    Itself(u16),
+    Turned(u16),
+    Joined(u16, u16),
+    Down(u16, u8),
 }
 
-fn read(proof: &[u8], i: usize) -> Line {
-    let at = i << 3;
-    Line {
-        rule: byte(proof, at),
-        place: byte(proof, at | 1),
-        first: pair(proof, at | 2),
-        second: pair(proof, at | 4),
-        reserved: pair(proof, at | 6),
-    }
-}
-
-// Fields that the rule doesn't use are zero.
-fn proper(l: Line) -> bool {
-    let placed = (l.rule == 2) | (l.rule == 6) | (l.place == 0);
-    placed & ((l.rule == 5) | (l.second == 0)) & (l.reserved == 0)
-}
-
-fn claim(kind: usize, u: usize, v: usize) -> usize {
-    (kind << 12) | (u << 6) | v
-}
-
-fn claim_at(m: &[usize], i: usize) -> usize {
-    get(m, CLAIM | i)
-}
-
-fn start(c: usize) -> usize {
-    (c >> 6) % 64
-}
-
-fn by_equation(m: &[usize], x: Question, name: usize) -> usize {
-    let k = book::find(m, name);
-    if k < get(m, book::HELD) {
-        return claim(0, get(m, book::LEFT | k), get(m, book::RIGHT | k));
-    }
-    if x.on & (x.name == name) {
-        return claim(0, x.left, x.right);
-    }
-    BROKEN
-}
-
-fn by_child(m: &[usize], u: usize, place: usize) -> usize {
-    if (u < get(m, book::NODES)) & (0 < place) & (place <= get(m, book::ARITY | u)) {
-        return claim(1, u, child(m, u, place));
-    }
-    BROKEN
-}
-
-fn by_self(m: &[usize], u: usize) -> usize {
-    if u < get(m, book::NODES) {
-        return claim(0, u, u);
-    }
-    BROKEN
-}
-
-// From an earlier line's claim, c
-
-fn by_turning(c: usize) -> usize {
-    if c < 4096 {
-        return claim(0, c % 64, start(c));
-    }
-    BROKEN
-}
-
-fn by_joining(c: usize, d: usize) -> usize {
-    if c % 64 == start(d) {
-        return claim((c | d) >> 12, start(c), d % 64);
-    }
-    BROKEN
-}
-
-fn by_down(m: &[usize], c: usize, place: usize) -> usize {
-    let u = start(c);
-    let v = c % 64;
-    if (c < 4096) & book::both_functors(m, u, v) & book::equal_labels(m, u, v) {
-        if (0 < place) & (place <= get(m, book::ARITY | u)) {
-            return claim(0, child(m, u, place), child(m, v, place));
+impl Line {
+    // Fields that the rule doesn't use are zero.
+    fn read(bytes: &[u8]) -> Option<Line> {
+        let [rule, place, a, b, c, d, 0, 0] = bytes else {
+            return None;
+        };
+        let first = u16::from_be_bytes([*a, *b]);
+        let second = u16::from_be_bytes([*c, *d]);
+        match (*rule, *place, second) {
+            (1, 0, 0) => Some(Line::Equation(first)),
+            (2, place, 0) => Some(Line::Child(first, place)),
+            (3, 0, 0) => Some(Line::Itself(first)),
+            (4, 0, 0) => Some(Line::Turned(first)),
+            (5, 0, second) => Some(Line::Joined(first, second)),
+            (6, place, 0) => Some(Line::Down(first, place)),
+            _ => None,
         }
     }
-    BROKEN
 }
 
-// A line with rule 4, 5 or 6, after its earlier lines were looked up.
-fn by_lines(m: &[usize], l: Line, i: usize) -> usize {
-    if (i <= l.first) | (i <= l.second) {
-        return BROKEN;
-    }
-    let c = claim_at(m, l.first);
-    let rule = l.rule;
-    match rule {
-        4 => by_turning(c),
-        5 => by_joining(c, claim_at(m, l.second)),
-        6 => by_down(m, c, l.place),
-        _ => BROKEN,
-    }
+fn by_equation(book: &Book, offer: Option<Equation>, name: u16) -> Option<Claim> {
+    let e = book.find(name).or(offer.filter(|e| e.name == name))?;
+    Some(Claim::same(e.left, e.right))
 }
 
-fn claimed(m: &[usize], x: Question, l: Line, i: usize) -> usize {
-    let rule = l.rule;
-    match rule {
-        1 => by_equation(m, x, l.first),
-        2 => by_child(m, l.first, l.place),
-        3 => by_self(m, l.first),
-        _ => by_lines(m, l, i),
+fn by_child(book: &Book, u: u16, place: u8) -> Option<Claim> {
+    let child = book.functor(u)?.child(place)?;
+    Some(Claim::below(u, child))
+}
+
+fn by_self(book: &Book, u: u16) -> Option<Claim> {
+    book.knows(u).then_some(Claim::same(u, u))
+}
+
+fn by_turning(c: Claim) -> Option<Claim> {
+    match c.relation {
+        Relation::Same => Some(Claim::same(c.end, c.start)),
+        Relation::Below => None,
     }
 }
 
-// What line i claims, or BROKEN.
-fn judged(m: &[usize], x: Question, proof: &[u8], i: usize) -> usize {
-    let l = read(proof, i);
-    if proper(l) {
-        return claimed(m, x, l, i);
+fn by_down(book: &Book, c: Claim, place: u8) -> Option<Claim> {
+    let f = book.functor(c.start)?;
+    let g = book.functor(c.end)?;
+    if c.relation == Relation::Below || f.symbol != g.symbol {
+        return None;
     }
-    BROKEN
+    Some(Claim::same(f.child(place)?, g.child(place)?))
 }
 
-// The first line that breaks its rule, or how many lines there are. Claims are noted.
-pub fn first_broken(m: &mut [usize], x: Question, proof: &[u8], lines: usize) -> usize {
-    let mut i: usize = 0;
-    while i < lines {
-        let c = judged(m, x, proof, i);
-        if c == BROKEN {
-            return i;
+fn shows(book: &Book, c: Claim, goal: Goal) -> bool {
+    match goal {
+        Goal::Clash => c.relation == Relation::Same && unequal_labels(book, c.start, c.end),
+        Goal::Cycle => c.relation == Relation::Below && c.start == c.end,
+        Goal::Claim(wanted) => c == wanted,
+    }
+}
+
+fn unequal_labels(book: &Book, u: u16, v: u16) -> bool {
+    match (book.functor(u), book.functor(v)) {
+        (Some(f), Some(g)) => f.symbol != g.symbol,
+        _ => false,
+    }
+}
+
+fn knows(book: &Book, x: Question) -> bool {
+    let goal = match x.goal {
+        Goal::Claim(c) => book.knows(c.start) && book.knows(c.end),
+        Goal::Clash | Goal::Cycle => true,
+    };
+    goal && x
+        .offer
+        .is_none_or(|e| book.knows(e.left) && book.knows(e.right))
+}
+
+/// What each line of a proof claims, up to the first that breaks its rule.
+#[derive(Drop)]
+pub struct Claims {
+    lines: ArrayVec<Claim, 8192>,
+}
+
+impl Claims {
+    pub fn none() -> Claims {
+        Claims {
+            lines: ArrayVec::new(),
         }
-        put(m, CLAIM | i, c);
-        i += 1;
     }
-    lines
-}
 
-// The same offer, and as goal what the last line claims.
-pub fn last_claim(m: &[usize], x: Question, lines: usize) -> Question {
-    let c = claim_at(m, std::num::wrapping_sub_usize(lines, 1));
-    asking(x, SAME | (c >> 12), start(c), c % 64)
-}
+    // An earlier line's.
+    fn get(&self, line: u16) -> Option<Claim> {
+        self.lines.as_slice().get(usize::from(line)).copied()
+    }
 
-fn unequal_labels(m: &[usize], u: usize, v: usize) -> bool {
-    if book::equal_labels(m, u, v) {
-        return false;
+    pub fn last(&self) -> Option<Claim> {
+        self.lines.as_slice().last().copied()
     }
-    book::both_functors(m, u, v)
-}
 
-fn shows(m: &[usize], c: usize, x: Question) -> bool {
-    let goal = x.goal;
-    match goal {
-        0 => (c < 4096) & unequal_labels(m, start(c), c % 64),
-        1 => (4096 <= c) & (start(c) == c % 64),
-        2 => c == claim(0, x.u, x.v),
-        _ => c == claim(1, x.u, x.v),
+    fn claimed(&self, book: &Book, offer: Option<Equation>, line: Line) -> Option<Claim> {
+        match line {
+            Line::Equation(name) => by_equation(book, offer, name),
+            Line::Child(u, place) => by_child(book, u, place),
+            Line::Itself(u) => by_self(book, u),
+            Line::Turned(i) => by_turning(self.get(i)?),
+            Line::Joined(i, j) => self.get(i)?.then(self.get(j)?),
+            Line::Down(i, place) => by_down(book, self.get(i)?, place),
+        }
     }
-}
 
-fn knows(m: &[usize], x: Question) -> bool {
-    let n = get(m, book::NODES);
-    let offer = (x.left < n) & (x.right < n);
-    let goal = (x.u < n) & (x.v < n);
-    (offer | !x.on) & (goal | (x.goal < SAME))
-}
+    /// Reads the lines in turn. An `Err` has the number of the first that breaks its rule.
+    pub fn read(&mut self, book: &Book, offer: Option<Equation>, proof: &[u8]) -> Result<(), u16> {
+        self.lines.clear();
+        for (i, bytes) in (0u16..8192).zip(proof.chunks_exact(8)) {
+            let line = Line::read(bytes).ok_or(i)?;
+            let claim = self.claimed(book, offer, line).ok_or(i)?;
+            self.lines.try_push(claim).map_err(|_| i)?;
+        }
+        Ok(())
+    }
 
-fn lines_owed(m: &mut [usize], x: Question, proof: &[u8], lines: usize) -> usize {
-    let k = first_broken(m, x, proof, lines);
-    if k < lines {
-        return BROKEN_AT | k;
-    }
-    if shows(m, claim_at(m, std::num::wrapping_sub_usize(lines, 1)), x) {
-        return PASSED;
-    }
-    13
-}
-
-// The reply that `check` owes to the first `bytes` bytes.
-pub fn owed(m: &mut [usize], x: Question, proof: &[u8], bytes: usize) -> usize {
-    if !knows(m, x) {
-        return 4;
-    }
-    if x.on & (book::find(m, x.name) < get(m, book::HELD)) {
-        return 6;
-    }
-    if (bytes == 0) | (65536 < bytes) | (bytes % 8 != 0) {
-        return 11;
-    }
-    lines_owed(m, x, proof, bytes / 8)
-}
-
-// Whether the goal is true of the closure.
-pub fn is_true(m: &[usize], x: Question) -> bool {
-    let goal = x.goal;
-    match goal {
-        0 => get(m, closure::CLASHES) == 1,
-        1 => get(m, closure::CYCLES) == 1,
-        2 => has(get(m, closure::SAME | x.u), x.v),
-        _ => has(get(m, closure::BELOW | x.u), x.v),
+    /// What `check` owes to a proof.
+    pub fn check(&mut self, book: &Book, x: Question, proof: &[u8]) -> Result<(), Fault> {
+        if !knows(book, x) {
+            return Err(Fault::UnknownNode);
+        }
+        if x.offer.is_some_and(|e| book.find(e.name).is_some()) {
+            return Err(Fault::NameHeld);
+        }
+        if proof.is_empty() || 65536 < proof.len() || proof.len() % 8 != 0 {
+            return Err(Fault::BadLength);
+        }
+        self.read(book, x.offer, proof).map_err(Fault::BrokenLine)?;
+        match self.last() {
+            Some(c) if shows(book, c, x.goal) => Ok(()),
+            _ => Err(Fault::NotShown),
+        }
     }
 }

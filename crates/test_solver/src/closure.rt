@@ -1,170 +1,170 @@
-// The other solver: rules applied to every pair of nodes until nothing changes. Place SAME + u has the set of nodes that are same as u,
-// place BELOW + u those below it.
-use super::book;
-use super::book::child;
-use super::numbers::{get, has, only, put};
+// The other solver: rules applied to every pair of nodes until nothing changes. A set of nodes is the bits of a number.
+ghost use Rattle.std.specs.Prelude.{◌≤◌, ◌<◌, length};
 
-pub const SAME: usize = 128;
+use super::book::{Book, Equation, Node};
+use super::checker::{Claim, Goal, Relation};
+use std::array;
 
-pub const BELOW: usize = 192;
+// The set of u alone.
+fn only(u: usize) -> u64 {
+    if u < 64 { 1 << u } else { 0 }
+}
 
-// Places that have 1 for yes.
-const CHANGED: usize = 72;
+fn has(set: u64, u: u16) -> bool {
+    set & only(usize::from(u)) != 0
+}
 
-pub const CLASHES: usize = 73;
-
-pub const CYCLES: usize = 74;
-
-fn grow(m: &mut [usize], at: usize, set: usize) {
-    let old = get(m, at);
-    if (old | set) != old {
-        put(m, at, old | set);
-        put(m, CHANGED, 1);
+fn children(node: &Node) -> u64 {
+    match node {
+        Node::Variable => 0,
+        Node::Functor(f) => f
+            .children()
+            .iter()
+            .fold(0, |set, u| set | only(usize::from(*u))),
     }
 }
 
-fn equate(m: &mut [usize], u: usize, v: usize) {
-    grow(m, SAME | u, only(v));
-    grow(m, SAME | v, only(u));
+/// Which nodes are same as each, and which lie below it; and whether there is a clash or a cycle.
+#[derive(Clone, Copy, PartialEq, Eq, Debug)]
+pub struct Closure {
+    same: [u64; 64],
+    below: [u64; 64],
+    clashes: bool,
+    cycles: bool,
 }
 
-// Children are same; at a place past the last both are node 0.
-fn down(m: &mut [usize], u: usize, v: usize, place: usize) {
-    equate(m, child(m, u, place), child(m, v, place));
-}
+impl Closure {
+    /// The closure of the book's equations, and of one more.
+    pub fn of(book: &Book, more: Option<Equation>) -> Closure {
+        let nodes = book.nodes.as_slice();
+        let mut closure = Closure {
+            same: array::from_fn(only),
+            below: array::from_fn(|u| nodes.get(u).map_or(0, children)),
+            clashes: false,
+            cycles: false,
+        };
+        for e in book.held.as_slice() {
+            closure.equate(e.left, e.right);
+        }
+        if let Some(e) = more {
+            closure.equate(e.left, e.right);
+        }
+        closure.saturate(nodes);
+        closure
+    }
 
-fn meet(m: &mut [usize], u: usize, v: usize) {
-    if book::equal_labels(m, u, v) {
-        down(m, u, v, 1);
-        down(m, u, v, 2);
-        down(m, u, v, 3);
-        down(m, u, v, 4);
-    } else {
-        put(m, CLASHES, 1);
+    fn add_same(&mut self, u: u16, v: u16) {
+        if let Some(set) = self.same.get_mut(usize::from(u)) {
+            *set |= only(usize::from(v));
+        }
     }
-}
 
-fn when_same(m: &mut [usize], u: usize, v: usize) {
-    if !has(get(m, SAME | u), v) {
-        return;
+    fn equate(&mut self, u: u16, v: u16) {
+        self.add_same(u, v);
+        self.add_same(v, u);
     }
-    grow(m, SAME | u, get(m, SAME | v));
-    grow(m, BELOW | u, get(m, BELOW | v));
-    if book::both_functors(m, u, v) {
-        meet(m, u, v);
-    }
-}
 
-fn when_below(m: &mut [usize], u: usize, v: usize) {
-    if !has(get(m, BELOW | u), v) {
-        return;
-    }
-    grow(m, BELOW | u, get(m, SAME | v) | get(m, BELOW | v));
-    if u == v {
-        put(m, CYCLES, 1);
-    }
-}
-
-fn pass(m: &mut [usize]) {
-    let pairs = get(m, book::NODES) << 6;
-    let mut k: usize = 0;
-    while k < pairs {
-        when_same(m, k % 64, k >> 6);
-        when_below(m, k % 64, k >> 6);
-        k += 1;
-    }
-}
-
-fn saturate(m: &mut [usize]) {
-    let mut turn: usize = 0;
-    while turn < 4096 {
-        put(m, CHANGED, 0);
-        pass(m);
-        if get(m, CHANGED) == 0 {
+    // Two nodes that are same: where both are functor nodes, they clash, or their children are same.
+    fn meet(&mut self, a: &Node, b: &Node) {
+        let (Node::Functor(f), Node::Functor(g)) = (a, b) else {
+            return;
+        };
+        if f.symbol != g.symbol {
+            self.clashes = true;
             return;
         }
-        turn += 1;
-    }
-}
-
-// The child of u at a place, as a set.
-fn below_at(m: &[usize], u: usize, place: usize) -> usize {
-    if place <= get(m, book::ARITY | u) {
-        return only(child(m, u, place));
-    }
-    0
-}
-
-fn begin_node(m: &mut [usize], u: usize) {
-    put(m, SAME | u, only(u));
-    let low = below_at(m, u, 1) | below_at(m, u, 2);
-    put(m, BELOW | u, low | below_at(m, u, 3) | below_at(m, u, 4));
-}
-
-fn begin_nodes(m: &mut [usize]) {
-    let mut u: usize = 0;
-    while u < 64 {
-        begin_node(m, u);
-        u += 1;
-    }
-}
-
-fn begin_equations(m: &mut [usize]) {
-    let held = get(m, book::HELD);
-    let mut k: usize = 0;
-    while k < held {
-        equate(m, get(m, book::LEFT | k), get(m, book::RIGHT | k));
-        k += 1;
-    }
-}
-
-// The closure of the book's equations and one between x and y. Of one node with itself an equation adds nothing.
-pub fn solve(m: &mut [usize], x: usize, y: usize) {
-    put(m, CLASHES, 0);
-    put(m, CYCLES, 0);
-    begin_nodes(m);
-    begin_equations(m);
-    equate(m, x, y);
-    saturate(m);
-}
-
-// What can be read off
-
-fn wide(x: u32) -> usize {
-    x as usize
-}
-
-fn lowest(m: &[usize], u: usize) -> usize {
-    wide(usize::trailing_zeros(get(m, SAME | u)))
-}
-
-// The class number: the first functor node that is same as u, or else the lowest node.
-pub fn number(m: &[usize], u: usize) -> usize {
-    let class = get(m, SAME | u);
-    let mut v: usize = 0;
-    while v < 64 {
-        if has(class, v) & (get(m, book::KIND | v) == 1) {
-            return v;
+        for (u, v) in f.children().iter().zip(g.children()) {
+            self.equate(*u, *v);
         }
-        v += 1;
     }
-    lowest(m, u)
-}
 
-// Whether the class number is not the lowest node.
-pub fn variable_first(m: &[usize], u: usize) -> bool {
-    lowest(m, u) < number(m, u)
-}
-
-pub fn size(m: &[usize], u: usize) -> usize {
-    wide(usize::count_ones(get(m, SAME | u)))
-}
-
-// The first node from `from` on that is same as u, or u.
-pub fn mate(m: &[usize], u: usize, from: usize) -> usize {
-    let later = (get(m, SAME | u) >> (from % 64)) << (from % 64);
-    if later == 0 {
-        return u;
+    // The rules for each node with v.
+    fn pass(&mut self, nodes: &[Node], v: usize, b: &Node)
+        requires { (length nodes.now ≤ 64) × (v < 64) }
+    {
+        let v_alone = only(v);
+        for (u, a) in nodes.iter().enumerate() {
+            if self.same[u] & v_alone != 0 {
+                self.same[u] |= self.same[v];
+                self.below[u] |= self.below[v];
+                self.meet(a, b);
+            }
+            if self.below[u] & v_alone != 0 {
+                self.below[u] |= self.same[v] | self.below[v];
+                self.cycles |= u == v;
+            }
+        }
     }
-    wide(usize::trailing_zeros(later))
+
+    fn pass_all(&mut self, nodes: &[Node])
+        requires { length nodes.now ≤ 64 }
+    {
+        for (v, b) in nodes.iter().enumerate() {
+            self.pass(nodes, v, b);
+        }
+    }
+
+    fn saturate(&mut self, nodes: &[Node])
+        requires { length nodes.now ≤ 64 }
+    {
+        for _ in 0..4096 {
+            let before = *self;
+            self.pass_all(nodes);
+            if *self == before {
+                return;
+            }
+        }
+    }
+
+    fn same_as(&self, u: u16) -> u64 {
+        self.same.get(usize::from(u)).copied().unwrap_or(0)
+    }
+
+    fn below(&self, u: u16) -> u64 {
+        self.below.get(usize::from(u)).copied().unwrap_or(0)
+    }
+
+    fn holds(&self, c: Claim) -> bool {
+        match c.relation {
+            Relation::Same => has(self.same_as(c.start), c.end),
+            Relation::Below => has(self.below(c.start), c.end),
+        }
+    }
+
+    /// Whether the goal is true.
+    pub fn shows(&self, goal: Goal) -> bool {
+        match goal {
+            Goal::Clash => self.clashes,
+            Goal::Cycle => self.cycles,
+            Goal::Claim(c) => self.holds(c),
+        }
+    }
+
+    fn lowest(&self, u: u16) -> usize {
+        self.same_as(u).trailing_zeros() as usize
+    }
+
+    /// The class number: the first functor node that is same as u, or else the lowest node.
+    pub fn number(&self, book: &Book, u: u16) -> usize {
+        let class = self.same_as(u);
+        let mut nodes = book.nodes.as_slice().iter().enumerate();
+        let first = nodes.find(|(v, n)| class & only(*v) != 0 && n.functor().is_some());
+        first.map_or(self.lowest(u), |(v, _)| v)
+    }
+
+    /// Whether the class number is not the lowest node.
+    pub fn variable_first(&self, book: &Book, u: u16) -> bool {
+        self.lowest(u) < self.number(book, u)
+    }
+
+    /// How many nodes are same as u.
+    pub fn size(&self, u: u16) -> usize {
+        self.same_as(u).count_ones() as usize
+    }
+
+    /// The first node from `from` on that is same as u, or u.
+    pub fn mate(&self, u: u16, from: u16) -> u16 {
+        let class = self.same_as(u);
+        (from..64).find(|v| has(class, *v)).unwrap_or(u)
+    }
 }

@@ -1,126 +1,154 @@
-// Replies as numbers. A refusal is its own, and most others are the place of their count; a class and a broken line have a part that varies.
-use super::bytes::low16;
-use test_solver::checker;
-use test_solver::checker::Question;
-use unifier::{CheckReply, ClassReply, Comparison, GoalAsked, OfferAsked, Reply};
+// The library's replies and questions, as the tests speak of them. Its own types are named here and in no test.
+use refusals::Refusal;
+use test_solver::book::Equation;
+use test_solver::checker::{Claim, Fault, Goal, Relation};
+use unifier::{Figures, GoalAsked, Offer, Outcome, Standing, Workspace};
 
-// Below this a number is a refusal's.
-pub const REFUSALS: usize = 32;
+/// What a call replies, without the proof.
+#[derive(Clone, Copy, PartialEq, Eq, Debug)]
+pub enum Reply {
+    Node(u8),
+    Held,
+    Gone,
+    Clash,
+    Cycle,
+    Same,
+    Below,
+    Above,
+    Apart,
+    Class { number: usize, size: usize },
+    Passed,
+    Refused(Refusal),
+}
 
-pub const HELD: usize = 34;
+impl Reply {
+    /// The number of the refusal, or 0.
+    pub fn number(self) -> u8 {
+        match self {
+            Reply::Refused(r) => r.number(),
+            _ => 0,
+        }
+    }
 
-pub const CLASH: usize = 35;
-
-pub const CYCLE: usize = 36;
-
-pub const GONE: usize = 37;
-
-pub const SAME: usize = 41;
-
-pub const BELOW: usize = 42;
-
-pub const ABOVE: usize = 43;
-
-pub const APART: usize = 44;
-
-pub const NODE: usize = 256;
-
-pub const CLASS: usize = 65536;
-
-pub fn changed(r: Reply) -> usize {
-    match r {
-        Reply::Node(u) => NODE | (u as usize),
-        Reply::Held => HELD,
-        Reply::Gone => GONE,
-        Reply::Refused(k) => k as usize,
-        Reply::Clash(_) => CLASH,
-        Reply::Cycle(_) => CYCLE,
+    /// What the proof that came with a reply about u and v has to show.
+    pub fn goal(self, u: u16, v: u16) -> Option<Goal> {
+        match self {
+            Reply::Clash => Some(Goal::Clash),
+            Reply::Cycle => Some(Goal::Cycle),
+            Reply::Same => Some(Goal::Claim(Claim::same(u, v))),
+            Reply::Below => Some(Goal::Claim(Claim::below(u, v))),
+            Reply::Above => Some(Goal::Claim(Claim::below(v, u))),
+            _ => None,
+        }
     }
 }
 
-pub fn compared(r: Comparison) -> usize {
-    match r {
-        Comparison::Same(_) => SAME,
-        Comparison::Below(_) => BELOW,
-        Comparison::Above(_) => ABOVE,
-        Comparison::Apart => APART,
-        Comparison::Refused(k) => k as usize,
+impl From<Result<(), Fault>> for Reply {
+    fn from(r: Result<(), Fault>) -> Reply {
+        match r {
+            Ok(()) => Reply::Passed,
+            Err(Fault::UnknownNode) => Reply::Refused(Refusal::UnknownNode),
+            Err(Fault::NameHeld) => Reply::Refused(Refusal::NameHeld),
+            Err(Fault::BadLength) => Reply::Refused(Refusal::BadLength),
+            Err(Fault::BrokenLine(line)) => Reply::Refused(Refusal::BrokenLine { line }),
+            Err(Fault::NotShown) => Reply::Refused(Refusal::NotShown),
+        }
     }
 }
 
-pub fn class_of(number: usize, size: usize) -> usize {
-    CLASS | (number << 8) | size
+/// What a call gives back.
+#[derive(Clone, Copy)]
+pub struct Answer {
+    pub reply: Reply,
+    /// How many bytes of proof came with it.
+    pub proof: usize,
+    pub workspace: Workspace,
 }
 
-pub fn classified(r: ClassReply) -> usize {
-    match r {
-        ClassReply::Class(number, size) => class_of(number as usize, size as usize),
-        ClassReply::Refused(k) => k as usize,
+// The bytes of so many lines.
+fn bytes(lines: u16) -> usize {
+    8 * usize::from(lines)
+}
+
+impl Answer {
+    // What is replied, with how many bytes of proof, or the refusal.
+    fn of(replied: Result<(Reply, usize), Refusal>, workspace: Workspace) -> Answer {
+        let (reply, proof) = match replied {
+            Ok(x) => x,
+            Err(Refusal::Clash { lines }) => (Reply::Clash, bytes(lines)),
+            Err(Refusal::Cycle { lines }) => (Reply::Cycle, bytes(lines)),
+            Err(r) => (Reply::Refused(r), 0),
+        };
+        Answer {
+            reply,
+            proof,
+            workspace,
+        }
+    }
+
+    /// Of a declaration.
+    pub fn node(o: Outcome<u8>) -> Answer {
+        Answer::of(o.reply.map(|u| (Reply::Node(u), 0)), o.workspace)
+    }
+
+    /// Of equate.
+    pub fn held(o: Outcome<()>) -> Answer {
+        Answer::of(o.reply.map(|_| (Reply::Held, 0)), o.workspace)
+    }
+
+    /// Of withdraw.
+    pub fn gone(o: Outcome<()>) -> Answer {
+        Answer::of(o.reply.map(|_| (Reply::Gone, 0)), o.workspace)
+    }
+
+    /// Of check.
+    pub fn passed(o: Outcome<()>) -> Answer {
+        Answer::of(o.reply.map(|_| (Reply::Passed, 0)), o.workspace)
+    }
+
+    /// Of compare.
+    pub fn stand(o: Outcome<Standing>) -> Answer {
+        Answer::of(o.reply.map(stood), o.workspace)
+    }
+
+    /// Of class.
+    pub fn class(o: Outcome<Figures>) -> Answer {
+        Answer::of(o.reply.map(classed), o.workspace)
     }
 }
 
-pub fn checked(r: CheckReply) -> usize {
-    match r {
-        CheckReply::Passed => checker::PASSED,
-        CheckReply::Refused(k) => k as usize,
-        CheckReply::Broken(i) => checker::BROKEN_AT | (i as usize),
+fn stood(s: Standing) -> (Reply, usize) {
+    match s {
+        Standing::Same(lines) => (Reply::Same, bytes(lines)),
+        Standing::Below(lines) => (Reply::Below, bytes(lines)),
+        Standing::Above(lines) => (Reply::Above, bytes(lines)),
+        Standing::Apart => (Reply::Apart, 0),
     }
 }
 
-// The bytes of the proof that came with a reply
-
-pub fn changed_bytes(r: Reply) -> usize {
-    match r {
-        Reply::Clash(lines) => (lines as usize) << 3,
-        Reply::Cycle(lines) => (lines as usize) << 3,
-        _ => 0,
-    }
+fn classed(f: Figures) -> (Reply, usize) {
+    let reply = Reply::Class {
+        number: usize::from(f.number),
+        size: usize::from(f.size),
+    };
+    (reply, 0)
 }
 
-pub fn compared_bytes(r: Comparison) -> usize {
-    match r {
-        Comparison::Same(lines) => (lines as usize) << 3,
-        Comparison::Below(lines) => (lines as usize) << 3,
-        Comparison::Above(lines) => (lines as usize) << 3,
-        _ => 0,
-    }
+pub fn offer(e: Option<Equation>) -> Option<Offer> {
+    e.map(|e| Offer {
+        name: e.name,
+        left: e.left,
+        right: e.right,
+    })
 }
 
-// The refusal, or 0. A broken line is refusal 12.
-pub fn refusal(code: usize) -> usize {
-    if code < REFUSALS {
-        return code;
-    }
-    if (checker::BROKEN_AT <= code) & (code < CLASS) {
-        return 12;
-    }
-    0
-}
-
-// What the proof that came with a reply has to show of u and v.
-pub fn shown(x: Question, code: usize, u: usize, v: usize) -> Question {
-    match code {
-        35 => checker::asking(x, checker::CLASH, u, v),
-        36 => checker::asking(x, checker::CYCLE, u, v),
-        41 => checker::asking(x, checker::SAME, u, v),
-        42 => checker::asking(x, checker::BELOW, u, v),
-        _ => checker::asking(x, checker::BELOW, v, u),
-    }
-}
-
-pub fn offer(x: Question) -> OfferAsked {
-    if x.on {
-        return OfferAsked::Equation(low16(x.name), low16(x.left), low16(x.right));
-    }
-    OfferAsked::Nothing
-}
-
-pub fn goal(x: Question) -> GoalAsked {
-    let goal = x.goal;
+pub fn goal(goal: Goal) -> GoalAsked {
     match goal {
-        0 => GoalAsked::Clash,
-        1 => GoalAsked::Cycle,
-        2 => GoalAsked::Same(low16(x.u), low16(x.v)),
-        _ => GoalAsked::Below(low16(x.u), low16(x.v)),
+        Goal::Clash => GoalAsked::Clash,
+        Goal::Cycle => GoalAsked::Cycle,
+        Goal::Claim(c) => match c.relation {
+            Relation::Same => GoalAsked::Same(c.start, c.end),
+            Relation::Below => GoalAsked::Below(c.start, c.end),
+        },
     }
 }

@@ -1,142 +1,99 @@
-// Workspaces: made by calls or from the book's places, and held against them.
-use super::bytes::{low8, low16};
+// Workspaces: made by calls or from the book, and held against it.
+ghost use Rattle.std.specs.Prelude.{◌≤◌, length};
+
 use super::replies;
+use super::replies::Answer;
 use store::{Equations, Terms};
-use test_solver::book;
+use test_solver::book::{Book, Equation, Node};
 use test_solver::checker::Question;
-use test_solver::numbers::get;
-use unifier::{Checked, Workspace};
+use unifier::Workspace;
 
 pub fn variable(w: Workspace) -> Workspace {
-    let o = w.declare_variable();
-    o.workspace
+    w.declare_variable().workspace
 }
 
 pub fn functor(w: Workspace, symbol: u16, children: &[u16]) -> Workspace {
-    let o = w.declare_functor(symbol, children);
-    o.workspace
+    w.declare_functor(symbol, children).workspace
 }
 
 pub fn equated(w: Workspace, name: u16, u: u16, v: u16, proof: &mut [u8]) -> Workspace {
-    let o = w.equate(name, u, v, proof);
-    o.workspace
+    w.equate(name, u, v, proof).workspace
 }
 
-pub fn check(w: Workspace, x: Question, proof: &[u8]) -> Checked {
-    w.check(replies::offer(x), proof, replies::goal(x))
+pub fn check(w: Workspace, x: Question, proof: &[u8]) -> Answer {
+    Answer::passed(w.check(replies::offer(x.offer), proof, replies::goal(x.goal)))
 }
 
-// Against the book
-
-fn wide8(x: u8) -> usize {
-    x as usize
+// The low byte: of a node's number, all of it.
+fn byte(u: u16) -> u8 {
+    (u & 0xff) as u8
 }
 
-fn wide16(x: u16) -> usize {
-    x as usize
-}
-
-fn agrees8(a: &[u8], m: &[usize], column: usize) -> bool {
-    let mut ok = true;
-    let mut i: usize = 0;
-    while i < a.len() {
-        let x = wide8(a[i]);
-        ok = ok & (x == get(m, column | i));
-        i += 1;
+fn terms_of(nodes: &[Node]) -> Terms
+    requires { length nodes.now ≤ 64 }
+{
+    let mut t = Terms {
+        count: nodes.len(),
+        kind: [0; 64],
+        symbol: [0; 64],
+        arity: [0; 64],
+        child: [0; 256],
+    };
+    for (u, node) in nodes.iter().enumerate() {
+        if let Node::Functor(f) = node {
+            t.kind[u] = 1;
+            t.symbol[u] = f.symbol;
+            t.arity[u] = f.children().len() as u8;
+            for (to, child) in t.child[4 * u..].iter_mut().zip(f.children()) {
+                *to = byte(*child);
+            }
+        }
     }
-    ok
+    t
 }
 
-fn agrees16(a: &[u16], m: &[usize], column: usize) -> bool {
-    let mut ok = true;
-    let mut i: usize = 0;
-    while i < a.len() {
-        let x = wide16(a[i]);
-        ok = ok & (x == get(m, column | i));
-        i += 1;
+fn equations_of(held: &[Equation]) -> Equations
+    requires { length held.now ≤ 256 }
+{
+    let mut all = Equations {
+        count: held.len(),
+        name: [0; 256],
+        left: [0; 256],
+        right: [0; 256],
+    };
+    for (k, e) in held.iter().enumerate() {
+        all.name[k] = e.name;
+        all.left[k] = byte(e.left);
+        all.right[k] = byte(e.right);
     }
-    ok
+    all
 }
 
-fn terms_agree(t: Terms, m: &[usize]) -> bool {
-    let kind = t.kind;
-    let symbol = t.symbol;
-    let arity = t.arity;
-    let child = t.child;
-    let a = agrees8(&kind, m, book::KIND) & agrees16(&symbol, m, book::SYMBOL);
-    let b = agrees8(&arity, m, book::ARITY) & agrees8(&child, m, book::CHILD);
-    (t.count == get(m, book::NODES)) & (a & b)
-}
-
-fn equations_agree(e: Equations, m: &[usize]) -> bool {
-    let name = e.name;
-    let left = e.left;
-    let right = e.right;
-    let a = agrees16(&name, m, book::NAME);
-    let b = agrees8(&left, m, book::LEFT) & agrees8(&right, m, book::RIGHT);
-    (e.count == get(m, book::HELD)) & (a & b)
-}
-
-// Whether the workspace has the book's two lists, and zero in unused places.
-pub fn agrees(w: Workspace, m: &[usize]) -> bool {
-    let t = w.terms;
-    let e = w.equations;
-    terms_agree(t, m) & equations_agree(e, m)
-}
-
-// From the book
-
-fn load8(a: &mut [u8], m: &[usize], column: usize) {
-    let mut i: usize = 0;
-    while i < a.len() {
-        a[i] = low8(get(m, column | i));
-        i += 1;
+/// The workspace of a book: its two lists, and zero in unused places.
+pub fn of(book: &Book) -> Workspace {
+    Workspace {
+        terms: terms_of(book.nodes.as_slice()),
+        equations: equations_of(book.held.as_slice()),
     }
 }
 
-fn load16(a: &mut [u16], m: &[usize], column: usize) {
-    let mut i: usize = 0;
-    while i < a.len() {
-        a[i] = low16(get(m, column | i));
-        i += 1;
-    }
+fn equal_terms(a: &Terms, b: &Terms) -> bool {
+    a.count == b.count
+        && a.kind == b.kind
+        && a.symbol == b.symbol
+        && a.arity == b.arity
+        && a.child == b.child
 }
 
-fn load_terms(m: &[usize]) -> Terms {
-    let mut kind = [0u8; 64];
-    let mut symbol = [0u16; 64];
-    let mut arity = [0u8; 64];
-    let mut child = [0u8; 256];
-    load8(&mut kind, m, book::KIND);
-    load16(&mut symbol, m, book::SYMBOL);
-    load8(&mut arity, m, book::ARITY);
-    load8(&mut child, m, book::CHILD);
-    Terms {
-        count: get(m, book::NODES),
-        kind,
-        symbol,
-        arity,
-        child,
-    }
+fn equal_equations(a: &Equations, b: &Equations) -> bool {
+    a.count == b.count && a.name == b.name && a.left == b.left && a.right == b.right
 }
 
-fn load_equations(m: &[usize]) -> Equations {
-    let mut name = [0u16; 256];
-    let mut left = [0u8; 256];
-    let mut right = [0u8; 256];
-    load16(&mut name, m, book::NAME);
-    load8(&mut left, m, book::LEFT);
-    load8(&mut right, m, book::RIGHT);
-    Equations {
-        count: get(m, book::HELD),
-        name,
-        left,
-        right,
-    }
+/// Whether two workspaces agree in every place, unused ones too.
+pub fn equal(a: &Workspace, b: &Workspace) -> bool {
+    equal_terms(&a.terms, &b.terms) && equal_equations(&a.equations, &b.equations)
 }
 
-pub fn load(m: &[usize]) -> Workspace {
-    let terms = load_terms(m);
-    let equations = load_equations(m);
-    Workspace { terms, equations }
+pub fn agrees(w: &Workspace, book: &Book) -> bool {
+    equal(w, &of(book))
 }

@@ -11,11 +11,12 @@ use Rattle.solve_classes.proofs.MemberLaws.{class_of}
 use Rattle.store.specs.Views.{symbol_at, children_at}
 use Rattle.store.proofs.ViewLaws.{nodes_length, functor_found, functor_known}
 use Rattle.unifier.specs.Views.{state_of}
-use Rattle.unifier.specs.Replies.{classified}
+use Rattle.std.specs.Prelude.{Ok}
+use Rattle.solve_classes.specs.declared.Figures.{Figures}
+use Rattle.unifier.specs.Replies.{outcome}
 use Rattle.unifier.specs.Class.{Classifies}
 use Rattle.unifier.specs.Inner.{Classed}
 use Rattle.unifier.specs.declared.Workspace.{Workspace}
-use Rattle.unifier.specs.declared.ClassReply.TheVariants as class-reply
 use Rattle.unifier.proofs.AskLaws.{class_told}
 
 -- ---- the kinds say which nodes are functor nodes
@@ -26,13 +27,12 @@ functor_only w v n e = (symbol_at w.terms v, children_at w.terms v, functor_foun
 functor_all : (w : Workspace) (v : ℕ) → FunctorAt (state_of w) v → functor_kind w.terms.kind v ≡ true
 functor_all w v F = eq-eqb _ _ (functor_known w.terms v F.0 F.1 F.2).1
 
-module _ (w : Workspace) (t kind : List ℕ) (u : ℕ) (k : Classed w t × (kind ≡ w.terms.kind)) (h : u < w.terms.count) where
-  pub told : (number size : ℕ) → (number ≡ class_number (in_class t (class t u)) (functor_kind kind)) × (size ≡ size_of (in_class t (class t u)) 64)
-      → Classifies w u (classified (class-reply.Class number size) w)
-  told number size r =
-      let c = k.0 in
-      class_told w u c.valid h number size
-      (rw (r.0, r.1, k.1)
+module _ (w : Workspace) (t : List ℕ) (u : ℕ) (c : Classed w t) (h : u < w.terms.count) where
+  pub told : (k : Figures) → (k.number ≡ class_number (in_class t (class t u)) (functor_kind w.terms.kind)) × (k.size ≡ size_of (in_class t (class t u)) 64)
+      → Classifies w u (outcome (Ok k) w)
+  told k r =
+      class_told w u c.valid h k
+      (rw (r.0, r.1)
       (class_of (state_of w) t u c.table c.exact
       (rw (nodes_length w.terms) c.valid.shape.terms.few)
       (rw (nodes_length w.terms) c.alone)

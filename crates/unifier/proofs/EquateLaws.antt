@@ -1,5 +1,5 @@
 -- Equate past its early refusals: what the verdict asks, and the reply to each.
-use mathlib.Core.Path.{◌≡◌, refl, sym, ap, ◌∙◌, subst}
+use mathlib.Core.Path.{◌≡◌, refl, sym, ap, subst}
 use mathlib.Core.Bool.{Bool, true, false, ◌&&◌, cond}
 use mathlib.Core.List.{List}
 use mathlib.Core.Option.{Option, none, some}
@@ -11,7 +11,6 @@ use borrow.Author.Tests.{ltb-true, ltb-false, leb-false}
 use Rattle.graph.specs.State.{State, state_with, Equation, name_held, offered}
 use Rattle.graph.specs.Goals.{Goal, clash_goal, cycle_goal}
 use Rattle.graph.specs.Book as book
-use Rattle.base.proofs.AbsurdLaws.{true_is_false}
 use Rattle.base.proofs.BoolLaws.{and_left, and_right}
 use Rattle.proof_lines.specs.Proof.{ProofIn}
 use Rattle.store.specs.Views.{nodes_of, state_from}
@@ -22,33 +21,39 @@ use Rattle.store.proofs.ViewLaws.{nodes_length, equations_length, shape_proper}
 use Rattle.store.proofs.PutEquationLaws.{Full, puts_equation}
 use Rattle.solve_trace.proofs.NodeLaws.{formed}
 use Rattle.solve_closure.specs.Settled.{OfferFits, Before}
-use Rattle.solve.specs.Decided.{number, Decided, Resumable}
-use Rattle.solve.specs.declared.Finding.{Finding}
+use Rattle.solve.specs.Decided.{number, LeftOver, Decided, Resumable}
+use Rattle.solve.specs.declared.SolveResult.{SolveResult}
 use Rattle.solve.specs.declared.Finding.TheVariants as finding
 use Rattle.solve.proofs.VerdictLaws.{solved_just, offering}
 use Rattle.solve.proofs.VerdictLaws as verdict
-use Rattle.unifier_respond.specs.Shows.{ProofRoom}
+use Rattle.std.specs.Prelude.{Result, Ok, Err}
+use Rattle.refusals.specs.declared.Refusal.{Refusal}
+use Rattle.refusals.specs.declared.Refusal.TheVariants as refusal
+use Rattle.solve_trace.specs.declared.Entry.{Entry}
 use Rattle.unifier.specs.Views.{workspace_of, state_of, Valid}
 use Rattle.unifier.specs.Replies.{outcome}
 use Rattle.unifier.specs.Equate.{Equates}
-use Rattle.unifier.specs.Inner.{Offering, Refuted, is_solved, is_held, Settles}
+use Rattle.unifier.specs.Inner.{Early, Offering, Refuted, PlaceFor, Settles}
 use Rattle.unifier.specs.declared.Workspace.{Workspace}
-use Rattle.unifier.specs.declared.Reply.{Reply}
-use Rattle.unifier.specs.declared.Reply.TheVariants as says
-use Rattle.unifier.proofs.Laws.{equate_held, equate_clash, equate_cycle}
+use Rattle.unifier.proofs.Laws.{equate_early, equate_clash, equate_cycle, equate_held}
 
--- a reply that doesn't hold the equation leaves the workspace
-pub settles_refused : (w : Workspace) (e : Equation) (before after : List ℕ) (r : Reply) → is_held r ≡ false → Equates w e before after (outcome r w) → Settles w e before after r
-settles_refused w e before after r h q = record { equates = rw h q; place = λ z. true_is_false (sym z ∙ h) }
+-- a refusal leaves the workspace
+pub settles_refused : (w : Workspace) (e : Equation) (before after : List ℕ) (k : Refusal) → Equates w e before after (outcome (Err k) w) → Settles w e before after (Err k)
+settles_refused w e before after k q = record { equates = q; place = tt }
+
+-- an early refusal, handed on
+pub settles_early : (w : Workspace) (e : Equation) (before : List ℕ) → Valid w → (r q : Result (Unit {0}) Refusal) {k : Refusal} → r ≡ Err k
+    → Early (book.early (state_of w) (book.equate e (length before))) r → q ≡ Err k → Settles w e before before q
+settles_early w e before v r q {k} h x y = rw y (settles_refused w e before before k (equate_early w e before v k (rw h at x)))
 
 -- and back: what the reply settles is what equate promises
-module _ (w : Workspace) (e : Equation) (before after : List ℕ) (r : Reply) where
-  pub settled_held : is_held r ≡ true → Settles w e before after r
-      → Equates w e before after (outcome r (workspace_of w.terms (with_equation w.equations e.name e.left e.right)))
-  settled_held h s = rw h at s.equates
+module _ (w : Workspace) (e : Equation) (before after : List ℕ) (r : Result (Unit {0}) Refusal) where
+  pub settled_refused : (k : Refusal) → r ≡ Err k → Settles w e before after r → Equates w e before after (outcome (Err k) w)
+  settled_refused k h s = (rw h at s).equates
 
-  pub settled_refused : is_held r ≡ false → Settles w e before after r → Equates w e before after (outcome r w)
-  settled_refused h s = rw h at s.equates
+  pub settled_held : r ≡ Ok tt → Settles w e before after r
+      → Equates w e before after (outcome (Ok tt) (workspace_of w.terms (with_equation w.equations e.name e.left e.right))) × PlaceFor w e
+  settled_held h s = let t = rw h at s in (t.equates, t.place)
 
 -- none of the four tests refuses
 tests : (x y z t : Bool) → ◌≡◌ {A = Option ℕ} (cond x (some 5) (cond y (cond z (some 6) (cond t (some 7) none)) (some 4))) none
@@ -89,7 +94,7 @@ module _ (w : Workspace) (e : Equation) (before : List ℕ) (past : book.early (
 full : {n : ℕ} {q : Equations} → EquationsShape n q → Full q
 full s = record { names = s.name_size; lefts = s.left_size; rights = s.right_size }
 
-module _ (w : Workspace) (e : Equation) (before table trace : List ℕ) (steps : ℕ) (o : Offering w e (length before) table trace steps) where
+module _ (w : Workspace) (e : Equation) (before table : List ℕ) (trace : List Entry) (o : Offering w e (length before) table trace) where
   offering_left : e.left < w.terms.count
   offering_left = known_left w e before o.past
 
@@ -99,7 +104,7 @@ module _ (w : Workspace) (e : Equation) (before table trace : List ℕ) (steps :
   valid : Valid w
   valid = record { shape = o.solved.shape; solution = o.solved.solution }
 
-  going : Resumable (state_of w) table trace steps
+  going : Resumable (state_of w) table trace
   going = record {
     proper = shape_proper w.terms w.equations o.solved.shape;
     ready = o.solved.ready;
@@ -108,49 +113,41 @@ module _ (w : Workspace) (e : Equation) (before table trace : List ℕ) (steps :
   }
 
   -- what the solver goes on from
-  pub extend_fits : OfferFits w.terms w.equations.count e.left e.right table trace steps
+  pub extend_fits : OfferFits w.terms w.equations.count e.left e.right table trace
   extend_fits = offering going (formed w.terms o.solved.shape.terms) o.solved.shape.equations.few (offering_left, offering_right)
 
-  module _ {after heights out : List ℕ} {n : ℕ} {v : Finding}
-      (D : (s : State) (d : Equation) → Before w.terms s d w.equations.count e.left e.right table trace steps → Decided (offered s d) after heights out n v) where
-    decided : Decided (offered (state_of w) e) after heights out n v
-    decided = D (state_of w) e (verdict.before going e refl (equations_length w.equations))
-
-    pub refuted : Refuted w e (length before) after heights out n v
-    refuted = record { valid = valid; past = o.past; decided = decided }
+  -- what the solver finds of both together
+  pub refuted : (r : SolveResult) (out : List Entry) → LeftOver w.terms r.table r.heights r.verdict
+      → ((s : State) (d : Equation) → Before w.terms s d w.equations.count e.left e.right table trace → Decided (offered s d) r out)
+      → Refuted w e (length before) r out
+  refuted r out l D = record {
+    valid = valid;
+    past = o.past;
+    decided = D (state_of w) e (verdict.before going e refl (equations_length w.equations));
+    left_over = l;
+  }
 
 -- ---- the verdict as a reply
 
-solved_is : (v : Finding) → is_solved v ≡ true → v ≡ finding.Solved
-solved_is finding.Solved h = refl
-solved_is (finding.Clash x y) h = true_is_false (sym h)
-solved_is finding.Cycle h = true_is_false (sym h)
-
-module _ (w : Workspace) (e : Equation) (before : List ℕ) {table heights trace : List ℕ} {steps : ℕ} {v : Finding}
-    (f : Refuted w e (length before) table heights trace steps v) where
-  pub refuted_as : (g : Finding) → v ≡ g → Refuted w e (length before) table heights trace steps g
-  refuted_as g q = subst (Refuted w e (length before) table heights trace steps) q f
-
-  pub settles_held : is_solved v ≡ true → Settles w e before before says.Held
-  settles_held h =
-      let q = solved_is v h in
+module _ (w : Workspace) (e : Equation) (before : List ℕ) (o : SolveResult) (trace : List Entry) (f : Refuted w e (length before) o trace) where
+  pub settles_held : o.verdict ≡ finding.Solved → Settles w e before before (Ok tt)
+  settles_held q =
       let s = f.valid.shape in
       let few = equations_few w e before f.past in
       let l = known_left w e before f.past in
       let r = known_right w e before f.past in
-      let p = puts_equation w.equations e.name e.left e.right (full s.equations) few w.equations.count w.equations.count w.equations.count refl refl refl in
+      let p = puts_equation w.equations e.name e.left e.right (full s.equations) few in
       record {
         equates = equate_held w e before f.valid f.past (with_equation w.equations e.name e.left e.right) p.held
             (p.shape w.terms.count s.equations l r (name_new w e before f.past)) (rw q at f.decided.verdict) ((solved_just f.decided).0 (rw q refl));
-        place = λ z. record { shape = s; few = few; left_known = l; right_known = r };
+        place = record { shape = s; few = few; left_known = l; right_known = r };
       }
 
 -- ---- refusals 8 and 9: d is the held equations with e at their end
 
-module _ (w : Workspace) (e : Equation) (before : List ℕ) {table heights trace : List ℕ} {steps : ℕ} {v : Finding}
-    (f : Refuted w e (length before) table heights trace steps v) where
-  pub refuted_room : ProofRoom before trace steps
-  refuted_room = record { buffer = buffer_long w e before f.past; trace_size = f.decided.ready.size; few = omega (arith, f.decided.few) }
+module _ (w : Workspace) (e : Equation) (before : List ℕ) (o : SolveResult) (trace : List Entry) (f : Refuted w e (length before) o trace) where
+  pub refuted_room : 65536 ≤ length before
+  refuted_room = buffer_long w e before f.past
 
   module _ (d : Equations) (p : PutsEquation w.equations e.name e.left e.right d) where
     pub refuted_shape : Shape w.terms d
@@ -163,15 +160,15 @@ module _ (w : Workspace) (e : Equation) (before : List ℕ) {table heights trace
     same_state : state_from w.terms d ≡ offered (state_of w) e
     same_state = ap (state_with (nodes_of w.terms)) p.held
 
-    pub refuted_decided : Decided (state_from w.terms d) table heights trace steps v
-    refuted_decided = subst (λ (s : State). Decided s table heights trace steps v) (sym same_state) f.decided
+    pub refuted_decided : Decided (state_from w.terms d) o trace
+    refuted_decided = subst (λ (s : State). Decided s o trace) (sym same_state) f.decided
 
     module _ (n : ℕ) (after : List ℕ) where
       moved : (g : Goal) → ProofIn (state_from w.terms d) g n before after → ProofIn (offered (state_of w) e) g n before after
       moved g = subst (λ (s : State). ProofIn s g n before after) same_state
 
-      pub settles_clash : number v ≡ 8 → ProofIn (state_from w.terms d) clash_goal n before after → Settles w e before after (says.Clash n)
-      settles_clash q l = settles_refused w e before after (says.Clash n) refl (equate_clash w e before f.valid f.past n after (rw q at f.decided.verdict) (moved clash_goal l))
+      pub settles_clash : number o.verdict ≡ 8 → ProofIn (state_from w.terms d) clash_goal n before after → Settles w e before after (Err (refusal.Clash n))
+      settles_clash q l = settles_refused w e before after (refusal.Clash n) (equate_clash w e before f.valid f.past n after (rw q at f.decided.verdict) (moved clash_goal l))
 
-      pub settles_cycle : number v ≡ 9 → ProofIn (state_from w.terms d) cycle_goal n before after → Settles w e before after (says.Cycle n)
-      settles_cycle q l = settles_refused w e before after (says.Cycle n) refl (equate_cycle w e before f.valid f.past n after (rw q at f.decided.verdict) (moved cycle_goal l))
+      pub settles_cycle : number o.verdict ≡ 9 → ProofIn (state_from w.terms d) cycle_goal n before after → Settles w e before after (Err (refusal.Cycle n))
+      settles_cycle q l = settles_refused w e before after (refusal.Cycle n) (equate_cycle w e before f.valid f.past n after (rw q at f.decided.verdict) (moved cycle_goal l))

@@ -5,7 +5,8 @@ use contract.Lifetimes.{Lfts}
 use denote.Ref.{Bor}
 use denote.MutBor.{MutBor}
 use Rattle.unifier.specs.declared.Workspace.{Workspace}
-use Rattle.proof_rules.specs.declared.OfferAsked.{OfferAsked}
+use Rattle.std.specs.Prelude.{Option}
+use Rattle.proof_rules.specs.declared.Offer.{Offer}
 use Rattle.proof_check.specs.declared.GoalAsked.{GoalAsked}
 use Rattle.unifier.proofs.Workspace.fresh.Reads as fresh
 use Rattle.unifier.proofs.Workspace.declare_variable.Reads as declare-variable
@@ -26,7 +27,7 @@ pub record Free : Type 0 where
   pub clears : (w : Workspace) → clear.Pre tt (w, tt)
   pub compares : (κs : Lfts 1) (w : Workspace) (u v : ℕ) (lent : MutBor (List ℕ)) → compare.Pre κs (w, (u, (v, (lent, tt))))
   pub classifies : (w : Workspace) (u : ℕ) → class_of.Pre tt (w, (u, tt))
-  pub checks : (κs : Lfts 1) (w : Workspace) (f : OfferAsked) (lines : Bor (List ℕ)) (g : GoalAsked) → check.Pre κs (w, (f, (lines, (g, tt))))
+  pub checks : (κs : Lfts 1) (w : Workspace) (f : Option Offer) (lines : Bor (List ℕ)) (g : GoalAsked) → check.Pre κs (w, (f, (lines, (g, tt))))
 
 pub free : Free
 free = record {

@@ -10,11 +10,10 @@ use Rattle.std.proofs.Math.Option.{Option, none, some}
 use Rattle.graph.specs.State.{State, Equation, name_held, with_offer}
 use Rattle.graph.specs.Goals.{Goal, clash_goal, cycle_goal, same_goal, below_goal, Judgement, refused}
 use Rattle.proof_rules.specs.Rules.{both_below, offer_below}
-use Rattle.proof_check.specs.Answers.{answer_to}
+use Rattle.proof_check.specs.Answers.{judged_as, answer_to}
 use Rattle.unifier.specs.Views.{state_of, Valid}
-use Rattle.unifier.specs.Replies.{judged}
 use Rattle.unifier.specs.declared.Workspace.{Workspace}
-use Rattle.unifier.specs.declared.Checked.{Checked}
+use Rattle.unifier.specs.declared.Outcome.{Outcome}
 
 abbrev pub goal_below : ℕ → Goal → Bool
 goal_below n clash_goal = true
@@ -32,7 +31,7 @@ check_reply s o g bytes =
     (cond (offer_new s o) (answer_to (with_offer s o) g bytes) (refused 6))
     (refused 4)
 
-pub record Checks (w : Workspace) (o : Option Equation) (g : Goal) (bytes : List ℕ) (r : Checked) : Type 0 where
-  pub refuses : (Valid w → ⊥) → judged r.reply ≡ refused 1
-  pub replies : Valid w → judged r.reply ≡ check_reply (state_of w) o g bytes
+pub record Checks (w : Workspace) (o : Option Equation) (g : Goal) (bytes : List ℕ) (r : Outcome (Unit {0})) : Type 0 where
+  pub refuses : (Valid w → ⊥) → judged_as r.reply ≡ refused 1
+  pub replies : Valid w → judged_as r.reply ≡ check_reply (state_of w) o g bytes
   pub workspace : r.workspace ≡ w

@@ -1,44 +1,26 @@
--- The enums of the replies in document 01's terms.
---   said      a reply as the book gives it, line counts aside: 8 is a clash, 9 a cycle
---   judged    the checker's reply: passed, a refusal's number, or the line of refusal 12
---   outcome, compared, classified, checked   a reply beside a workspace
-use Rattle.graph.specs.Goals.{Judgement, passed, refused, broken_line}
+-- The replies as the book and the checker give them.
+--   said          a reply as the book gives it, line counts aside: what an answer says, or the refusal's number; 8 is a clash, 9 a cycle
+--   node_number, is_held, is_gone   what the answers of declare, equate and withdraw say
+--   outcome       a reply beside a workspace
+use Rattle.std.specs.Prelude.{ℕ, Result, Ok, Err}
 use Rattle.graph.specs.Book as book
-use Rattle.unifier.specs.declared.Reply.{Reply}
-use Rattle.unifier.specs.declared.Reply.TheVariants.{Node, Held, Gone, Refused, Clash, Cycle}
-use Rattle.unifier.specs.declared.CheckReply.{CheckReply}
-use Rattle.unifier.specs.declared.CheckReply.TheVariants as check
+use Rattle.refusals.specs.Numbers.{refusal_number}
+use Rattle.refusals.specs.declared.Refusal.{Refusal}
 use Rattle.unifier.specs.declared.Workspace.{Workspace}
 use Rattle.unifier.specs.declared.Outcome.{Outcome}
-use Rattle.unifier.specs.declared.Compared.{Compared}
-use Rattle.unifier.specs.declared.Comparison.{Comparison}
-use Rattle.unifier.specs.declared.Classified.{Classified}
-use Rattle.unifier.specs.declared.ClassReply.{ClassReply}
-use Rattle.unifier.specs.declared.Checked.{Checked}
 
-abbrev pub said : Reply → book.BookReply
-said (Node i) = book.number i
-said Held = book.held
-said Gone = book.gone
-said (Refused k) = book.refused k
-said (Clash n) = book.refused 8
-said (Cycle n) = book.refused 9
+abbrev pub said : {A : Type 0} → (A → book.BookReply) → Result A Refusal → book.BookReply
+said says (Ok a) = says a
+said says (Err r) = book.refused (refusal_number r)
 
-abbrev pub judged : CheckReply → Judgement
-judged check.Passed = passed
-judged (check.Refused k) = refused k
-judged (check.Broken i) = broken_line i
+abbrev pub node_number : ℕ → book.BookReply
+node_number u = book.number u
 
--- ---- replies beside a workspace
+abbrev pub is_held : Unit {0} → book.BookReply
+is_held u = book.held
 
-abbrev pub outcome : Reply → Workspace → Outcome
+abbrev pub is_gone : Unit {0} → book.BookReply
+is_gone u = book.gone
+
+abbrev pub outcome : {A : Type 0} → Result A Refusal → Workspace → Outcome A
 outcome r w = record { reply = r; workspace = w }
-
-abbrev pub compared : Comparison → Workspace → Compared
-compared r w = record { reply = r; workspace = w }
-
-abbrev pub classified : ClassReply → Workspace → Classified
-classified r w = record { reply = r; workspace = w }
-
-abbrev pub checked : CheckReply → Workspace → Checked
-checked r w = record { reply = r; workspace = w }

@@ -2,31 +2,26 @@
 ghost use Rattle.std.specs.Prelude.{◌≡◌, ◌≤◌};
 ghost use Rattle.graph.specs.Limits.{equation_limit};
 ghost use Rattle.proof_rules.specs.Rules.{offer_of, both_below, offer_below};
-ghost use Rattle.proof_check.specs.Answers.{goal_of, judged_as};
-ghost use Rattle.unifier.specs.Views.{state_of};
-ghost use Rattle.unifier.specs.Replies.{judged, checked};
-ghost use Rattle.unifier.specs.Check.{goal_below, offer_new, Checks};
-ghost use Rattle.unifier.specs.Inner.{Reported, Questioned};
-ghost use Rattle.unifier.specs.declared.Workspace.{Workspace};
+ghost use Rattle.proof_check.specs.Answers.{goal_of};
+ghost use Rattle.unifier.specs.Replies.{outcome};
+ghost use Rattle.unifier.specs.Check.{goal_below, Checks};
+ghost use Rattle.unifier.specs.Inner.{Questioned};
 
-use super::{CheckReply, Checked, GoalAsked, OfferAsked, Workspace};
-use proof_check::Judged;
+use super::{GoalAsked, Offer, Outcome, Refusal, Workspace};
+use solve_trace::Trace;
 
 fn both_below(u: u16, v: u16, n: usize) -> bool
     ensures { result ≡ both_below n u v }
 {
-    if n <= u as usize {
-        return false;
-    }
-    (v as usize) < n
+    usize::from(u) < n && usize::from(v) < n
 }
 
-fn offer_below(offer: OfferAsked, n: usize) -> bool
+fn offer_below(offer: Option<Offer>, n: usize) -> bool
     ensures { result ≡ offer_below n (offer_of offer) }
 {
     match offer {
-        OfferAsked::Nothing => true,
-        OfferAsked::Equation(_, u, v) => both_below(u, v, n),
+        None => true,
+        Some(o) => both_below(o.left, o.right, n),
     }
 }
 
@@ -41,87 +36,42 @@ fn goal_below(goal: GoalAsked, n: usize) -> bool
     }
 }
 
-// The offered name is none of the first `m`.
-fn offer_new(names: &[u16; 256], m: usize, offer: OfferAsked) -> bool
-    requires { m ≤ equation_limit }
-    ensures { (w : Workspace) → w.equations.name ≡ names.now → w.equations.count ≡ m → result ≡ offer_new (state_of w) (offer_of offer) }
-{
-    match offer {
-        OfferAsked::Nothing => true,
-        OfferAsked::Equation(name, _, _) => m <= store::find(names, m, name),
-    }
-}
-
-// Refusal 4 or 6 of what is asked, or 0: there are `n` nodes, and the first `m` names are held.
-fn refusal(names: &[u16; 256], m: usize, n: usize, offer: OfferAsked, goal: GoalAsked) -> u8
-    requires { m ≤ equation_limit }
-    ensures { (w : Workspace) → w.equations.name ≡ names.now → w.equations.count ≡ m → w.terms.count ≡ n → Questioned w (offer_of offer) (goal_of goal) result }
-{
-    if !offer_below(offer, n) {
-        return 4;
-    }
-    if !goal_below(goal, n) {
-        return 4;
-    }
-    if !offer_new(names, m, offer) {
-        return 6;
-    }
-    0
-}
-
-fn reply_of(j: Judged) -> CheckReply
-    requires { Reported (judged_as j) }
-    ensures { judged result ≡ judged_as j }
-{
-    match j {
-        Judged::Passes => CheckReply::Passed,
-        Judged::Refused(k) => CheckReply::Refused(k),
-        Judged::Broken(i) => CheckReply::Broken(i as u16),
-    }
-}
-
 impl Workspace {
-    fn refuse_check(self, number: u8) -> Checked
-        ensures { result ≡ checked (CheckReply.Refused number) self }
+    // Refusal 4 or 6 of what is asked.
+    fn refusal(&self, offer: Option<Offer>, goal: GoalAsked) -> Result<(), Refusal>
+        requires { self.now.equations.count ≤ equation_limit }
+        ensures { Questioned self.now (offer_of offer) (goal_of goal) result }
     {
-        Checked {
-            reply: CheckReply::Refused(number),
-            workspace: self,
+        let n = self.terms.count;
+        if !offer_below(offer, n) {
+            return Err(Refusal::UnknownNode);
         }
+        if !goal_below(goal, n) {
+            return Err(Refusal::UnknownNode);
+        }
+        let Some(o) = offer else {
+            return Ok(());
+        };
+        if self.equations.find(o.name).is_some() {
+            return Err(Refusal::NameHeld);
+        }
+        Ok(())
+    }
+
+    fn judge(&self, offer: Option<Offer>, lines: &[u8], goal: GoalAsked) -> Result<(), Refusal>
+        ensures { Checks self.now (offer_of offer) (goal_of goal) lines.now (outcome result self.now) }
+    {
+        self.examined(&mut Trace::new())?;
+        self.refusal(offer, goal)?;
+        proof_check::check(&self.terms, &self.equations, offer, lines, goal)
     }
 
     // Whether the lines, with the offered equation counted among the held, show the goal.
-    pub fn check(self, offer: OfferAsked, lines: &[u8], goal: GoalAsked) -> Checked
+    pub fn check(self, offer: Option<Offer>, lines: &[u8], goal: GoalAsked) -> Outcome<()>
         ensures { Checks self (offer_of offer) (goal_of goal) lines.now result }
     {
-        let mut trace = [0u16; 64];
-        let x = self.examined(&mut trace);
-        if !x.valid {
-            return self.refuse_check(1);
-        }
-        let n = self.terms.count;
-        let m = self.equations.count;
-        let number = refusal(&self.equations.name, m, n, offer, goal);
-        if number != 0 {
-            return self.refuse_check(number);
-        }
-        let j = proof_check::check(
-            &self.terms.kind,
-            &self.terms.symbol,
-            &self.terms.arity,
-            &self.terms.child,
-            n,
-            &self.equations.name,
-            &self.equations.left,
-            &self.equations.right,
-            m,
-            offer,
-            lines,
-            goal,
-        );
-        let reply = reply_of(j);
-        Checked {
-            reply: reply,
+        Outcome {
+            reply: self.judge(offer, lines, goal),
             workspace: self,
         }
     }

@@ -1,25 +1,29 @@
 // The workspace and its calls. No call asks anything of its caller: whatever is handed in gets a reply.
 #![tactic(auto)]
 
-ghost use Rattle.std.specs.Prelude.{◌≡◌, length};
+ghost use Rattle.std.specs.Prelude.{◌≡◌, ◌<◌, ◌≤◌, ℕ, length};
+ghost use Rattle.std.specs.Prelude.{Result, Ok, Err};
+ghost use Rattle.graph.specs.Limits.{equation_limit};
 ghost use Rattle.graph.specs.State.{variable, functor};
 ghost use Rattle.graph.specs.Book as book;
-ghost use Rattle.unifier_examine.specs.Examines.{Examines};
-ghost use Rattle.unifier.specs.Views.{fresh_workspace, Valid};
-ghost use Rattle.unifier.specs.Replies.{outcome, classified};
-ghost use Rattle.unifier.specs.Inner.{Classed};
+ghost use Rattle.unifier.specs.Views.{fresh_workspace};
+ghost use Rattle.unifier.specs.Replies.{outcome, node_number, is_gone};
 ghost use Rattle.unifier.specs.Answers.{Answers};
 ghost use Rattle.unifier.specs.Class.{Classifies};
+ghost use Rattle.unifier.specs.Inner.{Examining};
 
 mod check; // the calls of these names
 mod compare;
 mod equate;
 
-pub use proof_check::GoalAsked; // what check takes
 use graph::{CHILDREN, NODES};
-pub use proof_rules::OfferAsked;
+pub use proof_check::GoalAsked; // what check takes
+pub use proof_rules::Offer;
+pub use refusals::Refusal;
+pub use solve_classes::Figures; // what class_of replies
+use solve_trace::Trace;
 use store::{Equations, Terms};
-use unifier_examine::Examined;
+pub use unifier_respond::Standing; // what compare replies
 
 // The layout is C's, so that a host hands over the value as it is.
 #[repr(C)]
@@ -29,63 +33,10 @@ pub struct Workspace {
     pub equations: Equations,
 }
 
-// What declare, equate and withdraw reply. A clash and a cycle, refusals 8 and 9, have the number of proof lines.
+// What a call hands back: its reply, or why it refuses, and the workspace.
 #[derive(Clone, Copy)]
-pub enum Reply {
-    Node(u8),
-    Held,
-    Gone,
-    Refused(u8),
-    Clash(u16),
-    Cycle(u16),
-}
-
-#[derive(Clone, Copy)]
-pub struct Outcome {
-    pub reply: Reply,
-    pub workspace: Workspace,
-}
-
-// How two nodes stand, with the number of proof lines.
-#[derive(Clone, Copy)]
-pub enum Comparison {
-    Same(u16),
-    Below(u16),
-    Above(u16),
-    Apart,
-    Refused(u8),
-}
-
-#[derive(Clone, Copy)]
-pub struct Compared {
-    pub reply: Comparison,
-    pub workspace: Workspace,
-}
-
-// A class number, which is the class's lowest functor node or, where it has none, its lowest variable; and how many nodes the class has.
-#[derive(Clone, Copy)]
-pub enum ClassReply {
-    Class(u8, u8),
-    Refused(u8),
-}
-
-#[derive(Clone, Copy)]
-pub struct Classified {
-    pub reply: ClassReply,
-    pub workspace: Workspace,
-}
-
-// Refusal 12 has the line.
-#[derive(Clone, Copy)]
-pub enum CheckReply {
-    Passed,
-    Refused(u8),
-    Broken(u16),
-}
-
-#[derive(Clone, Copy)]
-pub struct Checked {
-    pub reply: CheckReply,
+pub struct Outcome<T> {
+    pub reply: Result<T, Refusal>,
     pub workspace: Workspace,
 }
 
@@ -94,11 +45,9 @@ impl Workspace {
     pub fn fresh() -> Workspace
         ensures { result ≡ fresh_workspace }
     {
-        let terms = Terms::fresh();
-        let equations = Equations::fresh();
         Workspace {
-            terms: terms,
-            equations: equations,
+            terms: Terms::fresh(),
+            equations: Equations::fresh(),
         }
     }
 
@@ -109,181 +58,109 @@ impl Workspace {
         Workspace::fresh()
     }
 
-    // Whether this is a workspace, with its class table, its trace and its nodes' kinds. The kinds are those of the copy that the test
-    // reads: read off the workspace, they would take it apart, and it would be copied once more.
-    fn examined_kinds(self, trace: &mut [u16; 64], kind: &mut [u8; 64]) -> Examined
-        requires { length trace.old ≡ 64 }
-        ensures examines { Examines self.terms self.equations trace.new result }
-        ensures kind_after { kind.new ≡ self.terms.kind }
+    // The class table of the held equations, with its trace, or that this is no workspace. So begins every call.
+    fn examined(&self, trace: &mut Trace) -> Result<[u8; 64], Refusal>
+        requires { length trace.old ≡ 0 }
+        ensures { Examining self.now trace.new result }
     {
-        *kind = self.terms.kind;
-        unifier_examine::examine(
-            trace,
-            self.terms.count,
-            &self.terms.kind,
-            &self.terms.symbol,
-            &self.terms.arity,
-            &self.terms.child,
-            self.equations.count,
-            &self.equations.name,
-            &self.equations.left,
-            &self.equations.right,
-        )
+        unifier_examine::examine(trace, &self.terms, &self.equations).ok_or(Refusal::NotAWorkspace)
     }
 
-    // The same without the kinds.
-    fn examined(self, trace: &mut [u16; 64]) -> Examined
-        requires { length trace.old ≡ 64 }
-        ensures { Examines self.terms self.equations trace.new result }
+    fn put_variable(&mut self) -> Result<u8, Refusal>
+        ensures { Answers node_number self.old (book.declare variable) (outcome result self.new) }
     {
-        let mut kind = [0u8; 64];
-        self.examined_kinds(trace, &mut kind)
-    }
-
-    fn refuse(self, number: u8) -> Outcome
-        ensures { result ≡ outcome (Reply.Refused number) self }
-    {
-        Outcome {
-            reply: Reply::Refused(number),
-            workspace: self,
-        }
-    }
-
-    // Past refusal 1. So are the inner functions of the other calls.
-    fn put_variable(mut self) -> Outcome
-        requires { Valid self }
-        ensures { Answers self (book.declare variable) result }
-    {
+        self.examined(&mut Trace::new())?;
         let n = self.terms.count;
         if NODES <= n {
-            return self.refuse(2);
+            return Err(Refusal::NodesFull);
         }
-        let t = self.terms;
-        let more = t.put_variable();
-        self.terms = more;
-        Outcome {
-            reply: Reply::Node(n as u8),
-            workspace: self,
-        }
+        self.terms.put_variable();
+        Ok(n as u8)
     }
 
     // Puts a variable at the end: its number, or refusal 1 or 2.
-    pub fn declare_variable(self) -> Outcome
-        ensures { Answers self (book.declare variable) result }
+    pub fn declare_variable(mut self) -> Outcome<u8>
+        ensures { Answers node_number self (book.declare variable) result }
     {
-        let mut trace = [0u16; 64];
-        let x = self.examined(&mut trace);
-        if x.valid {
-            return self.put_variable();
+        let reply = self.put_variable();
+        Outcome {
+            reply,
+            workspace: self,
         }
-        self.refuse(1)
     }
 
-    fn put_functor(mut self, symbol: u16, children: &[u16]) -> Outcome
-        requires { Valid self }
-        ensures { Answers self (book.declare (functor symbol children.now)) result }
+    fn put_functor(&mut self, symbol: u16, children: &[u16]) -> Result<u8, Refusal>
+        ensures { Answers node_number self.old (book.declare (functor symbol children.now)) (outcome result self.new) }
     {
-        let count = self.terms.count;
-        if NODES <= count {
-            return self.refuse(2);
+        self.examined(&mut Trace::new())?;
+        let n = self.terms.count;
+        if NODES <= n {
+            return Err(Refusal::NodesFull);
         }
         if CHILDREN < children.len() {
-            return self.refuse(3);
+            return Err(Refusal::TooManyChildren);
         }
-        if !store::all_below(children, count as u16) {
-            return self.refuse(4);
+        if !store::all_below(children, n as u16) {
+            return Err(Refusal::UnknownNode);
         }
-        let k = children.len() as u8;
-        let t = self.terms;
-        if store_arity::arity_fits(&t.kind, &t.symbol, &t.arity, count, symbol, k) {
-            let more = t.put_functor(symbol, children);
-            self.terms = more;
-            return Outcome {
-                reply: Reply::Node(count as u8),
-                workspace: self,
-            };
+        if !store_arity::arity_fits(&self.terms, n, symbol, children.len() as u8) {
+            return Err(Refusal::OtherArity);
         }
-        self.refuse(18)
+        self.terms.put_functor(symbol, children);
+        Ok(n as u8)
     }
 
     // Puts a functor node at the end: its number, or refusal 1, 2, 3, 4 or 18.
-    pub fn declare_functor(self, symbol: u16, children: &[u16]) -> Outcome
-        ensures { Answers self (book.declare (functor symbol children.now)) result }
+    pub fn declare_functor(mut self, symbol: u16, children: &[u16]) -> Outcome<u8>
+        ensures { Answers node_number self (book.declare (functor symbol children.now)) result }
     {
-        let mut trace = [0u16; 64];
-        let x = self.examined(&mut trace);
-        if x.valid {
-            return self.put_functor(symbol, children);
-        }
-        self.refuse(1)
-    }
-
-    fn remove(mut self, name: u16) -> Outcome
-        requires { Valid self }
-        ensures { Answers self (book.withdraw name) result }
-    {
-        let e = self.equations;
-        let r = e.remove(name);
-        if r.found {
-            let rest = r.equations;
-            self.equations = rest;
-            return Outcome {
-                reply: Reply::Gone,
-                workspace: self,
-            };
-        }
-        self.refuse(10)
-    }
-
-    // Strikes the equation of that name: gone, or refusal 1 or 10.
-    pub fn withdraw(self, name: u16) -> Outcome
-        ensures { Answers self (book.withdraw name) result }
-    {
-        let mut trace = [0u16; 64];
-        let x = self.examined(&mut trace);
-        if x.valid {
-            return self.remove(name);
-        }
-        self.refuse(1)
-    }
-
-    fn refuse_class(self, number: u8) -> Classified
-        ensures { result ≡ classified (ClassReply.Refused number) self }
-    {
-        Classified {
-            reply: ClassReply::Refused(number),
+        let reply = self.put_functor(symbol, children);
+        Outcome {
+            reply,
             workspace: self,
         }
     }
 
-    fn class_in(self, table: [u8; 64], kind: [u8; 64], u: u16) -> Classified
-        requires classed { Classed self table }
-        requires kind_value { kind ≡ self.terms.kind }
-        ensures { Classifies self u result }
+    fn remove(&mut self, name: u16) -> Result<(), Refusal>
+        ensures { Answers is_gone self.old (book.withdraw name) (outcome result self.new) }
     {
-        let x = u as usize;
+        self.examined(&mut Trace::new())?;
+        if self.equations.remove(name) {
+            Ok(())
+        } else {
+            Err(Refusal::NameNotHeld)
+        }
+    }
+
+    // Strikes the equation of that name, or refusal 1 or 10.
+    pub fn withdraw(mut self, name: u16) -> Outcome<()>
+        ensures { Answers is_gone self (book.withdraw name) result }
+    {
+        let reply = self.remove(name);
+        Outcome {
+            reply,
+            workspace: self,
+        }
+    }
+
+    fn class_in(&self, u: u16) -> Result<Figures, Refusal>
+        ensures { Classifies self.now u (outcome result self.now) }
+    {
+        let table = self.examined(&mut Trace::new())?;
+        let x = usize::from(u);
         if self.terms.count <= x {
-            return self.refuse_class(4);
+            return Err(Refusal::UnknownNode);
         }
-        let c = table[x];
-        let k = solve_classes::class_figures(table, kind, c);
-        Classified {
-            reply: ClassReply::Class(k.number, k.size),
-            workspace: self,
-        }
+        Ok(solve_classes::class_figures(table, self.terms.kind, table[x]))
     }
 
     // The number of the node's class and how many nodes it has, or refusal 1 or 4.
-    pub fn class_of(self, u: u16) -> Classified
+    pub fn class_of(self, u: u16) -> Outcome<Figures>
         ensures { Classifies self u result }
     {
-        let mut trace = [0u16; 64];
-        let mut kind = [0u8; 64];
-        let x = self.examined_kinds(&mut trace, &mut kind);
-        if x.valid {
-            let table = x.table;
-            return self.class_in(table, kind, u);
+        Outcome {
+            reply: self.class_in(u),
+            workspace: self,
         }
-        self.refuse_class(1)
     }
 }

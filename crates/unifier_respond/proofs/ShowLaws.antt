@@ -1,9 +1,10 @@
 -- From what the writer promises of lines to proofs of goals, where the arrays have the right shape.
 use mathlib.Core.Path.{refl}
 use mathlib.Core.List.{List}
-use Prim.Native.Nat.{ℕ, ◌<◌}
+use Prim.Native.Nat.{ℕ, ◌≤◌, ◌<◌}
 use native.Mathlib.Omega.{arith}
-use lib.ListN.{take}
+use lib.ListN.{length}
+use Rattle.graph.specs.Limits.{node_limit, buffer_bytes}
 use Rattle.graph.specs.State.{State}
 use Rattle.graph.specs.Lines.{same, below}
 use Rattle.graph.specs.Goals.{clash_goal, cycle_goal, same_goal, below_goal}
@@ -14,7 +15,10 @@ use Rattle.store.specs.Shape.{Shape}
 use Rattle.store.proofs.ViewLaws.{node_in}
 use Rattle.solve_classes.specs.Table.{Table}
 use Rattle.solve_trace.proofs.NodeLaws.{formed}
+use Rattle.solve_trace.specs.Trace.{Traced}
 use Rattle.solve_trace.proofs.TraceLaws.{traced_table}
+use Rattle.solve_trace.specs.declared.Entry.{Entry}
+use Rattle.solve_reach.specs.declared.Search.{Search}
 use Rattle.solve_reach.specs.Reach.{Searched}
 use Rattle.solve_reach.specs.Search.{Reached}
 use Rattle.solve_reach.proofs.SearchLaws.{searched}
@@ -22,7 +26,7 @@ use Rattle.solve.specs.Decided.{Clashes}
 use Rattle.proof_lines.specs.Proof.{ProofIn}
 use Rattle.write_runs.proofs.GoalLaws.{proof, shows_same, shows_below, shows_cycle, shows_clash}
 use Rattle.write_same.specs.Replay.{OneClass, Explained}
-use Rattle.write_same.proofs.ShapeLaws.{shape_describes}
+use Rattle.write_same.proofs.ShapeLaws.{shape_describes, shape_steps}
 use Rattle.write_below.specs.Chain.{Lowered, Circled}
 use Rattle.unifier_respond.specs.Shows.{Shows, TracedClosure}
 
@@ -41,32 +45,32 @@ module _ (s : State) {n : ℕ} {before after : List ℕ} where
 -- ---- the writer's lines
 
 module _ (g : Terms) (q : Equations) (S : Shape g q) where
-  module _ {es t : List ℕ} (T : TracedClosure (state_from g q) es t) where
+  -- what the writer asks of the arrays and the trace
+  pub writer_room : {es : List Entry} {t : List ℕ} (buf : List ℕ) → Traced (state_from g q) es t → buffer_bytes ≤ length buf
+      → (g.count ≤ node_limit) × ((length es ≤ 63) × (buffer_bytes ≤ length buf))
+  writer_room buf T h = (S.terms.few, (shape_steps g q S T, h))
+
+  module _ {es : List Entry} {t : List ℕ} (T : TracedClosure (state_from g q) es t) where
     pub closure_table : Table t
     closure_table = traced_table (state_from g q) (shape_describes g q S).ends.limited.proper T.traced
 
-    pub down : {parent place into level : List ℕ} {u : ℕ} → u < g.count → Reached g t parent place into level u
-        → Searched (state_from g q) t parent place into level u
-    down hu R = searched g (state_from g q) t _ _ _ _ _ closure_table (formed g S.terms) refl T.exact hu R
+    pub down : {r : Search} {u : ℕ} → u < g.count → Reached g t r u → Searched (state_from g q) t r u
+    down {r} {u} hu R = searched g (state_from g q) t r u closure_table (formed g S.terms) refl T.exact hu R
 
-  module _ (trace : List ℕ) (n : ℕ) {buf out : List ℕ} {m : ℕ} where
-    pub shown_same : (u v : ℕ) → u < g.count → v < g.count → OneClass (state_from g q) (take n trace) u v
-        → Explained g.count q.name q.left q.right g.child trace n buf u v out m → Shows (state_from g q) (same u v) m buf out
+  module _ {es : List Entry} {buf out : List ℕ} {m : ℕ} where
+    pub shown_same : (u v : ℕ) → u < g.count → v < g.count → OneClass (state_from g q) es u v → Explained g q es buf u v out m
+        → Shows (state_from g q) (same u v) m buf out
     shown_same u v hu hv J E =
         proof (state_from g q) E.some_lines (omega (arith, E.high, S.terms.few)) E.kept
         (E.shown (state_from g q) (shape_describes g q S) J (node_in g q u hu) (node_in g q v hv))
 
-    module _ {t parent place into level : List ℕ} (T : TracedClosure (state_from g q) (take n trace) t) (u : ℕ) (hu : u < g.count)
-        (R : Reached g t parent place into level u) where
-      pub shown_below : (v : ℕ) → v < g.count
-          → Lowered g.count q.name q.left q.right g.child trace n t parent place into level buf u v out m
-          → Shows (state_from g q) (below u v) m buf out
+    module _ {t : List ℕ} {r : Search} (T : TracedClosure (state_from g q) es t) (u : ℕ) (hu : u < g.count) (R : Reached g t r u) where
+      pub shown_below : (v : ℕ) → v < g.count → Lowered g q es t r buf u v out m → Shows (state_from g q) (below u v) m buf out
       shown_below v hv L =
           proof (state_from g q) L.some_lines (omega (arith, L.high, S.terms.few)) L.kept
           (L.shown (state_from g q) (shape_describes g q S) T.traced (down T hu R).edges (node_in g q u hu) (node_in g q v hv))
 
-      pub shown_cycle : Circled g.count q.name q.left q.right g.child trace n t parent place into level buf out m
-          → ProofIn (state_from g q) cycle_goal m buf out
+      pub shown_cycle : Circled g q es t r buf out m → ProofIn (state_from g q) cycle_goal m buf out
       shown_cycle L =
           let k = L.shown (state_from g q) (shape_describes g q S) T.traced (down T hu R).edges in
           proof (state_from g q) L.some_lines (omega (arith, L.high, S.terms.few)) L.kept k.1 cycle_goal (shows_cycle (state_from g q) L.node)

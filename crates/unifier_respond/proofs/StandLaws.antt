@@ -1,10 +1,10 @@
 -- How two nodes stand, from the class table and the search downward.
-use mathlib.Core.Path.{◌≡◌, refl}
+use mathlib.Core.Path.{◌≡◌, refl, sym, ◌∙◌}
+use mathlib.Core.Bool.{Bool, true, false}
 use mathlib.Core.List.{List}
-use Prim.Native.Nat.{ℕ, ◌≤◌, ◌<◌}
+use Prim.Native.Nat.{ℕ, ◌<◌}
 use native.Mathlib.Omega.{arith}
-use lib.ListN.{length, take}
-use Rattle.graph.specs.Limits.{buffer_bytes}
+use Rattle.base.proofs.AbsurdLaws.{true_is_false}
 use Rattle.graph.specs.Closure.{Same, Below}
 use Rattle.graph.specs.Goals.{same_goal, below_goal}
 use Rattle.proof_lines.specs.Proof.{ProofIn}
@@ -16,43 +16,40 @@ use Rattle.solve_classes.specs.Table.{class, Table}
 use Rattle.solve_classes.proofs.TableLaws.{class_small}
 use Rattle.solve_trace.specs.Nodes.{Formed}
 use Rattle.solve_trace.proofs.NodeLaws.{formed}
-use Rattle.solve_reach.specs.Reach.{level_of, Searched}
+use Rattle.solve_trace.specs.declared.Entry.{Entry}
+use Rattle.solve_reach.specs.declared.Search.{Search}
+use Rattle.solve_reach.specs.Reach.{Reaches, Searched}
 use Rattle.solve_reach.specs.Search.{Reached}
 use Rattle.write_same.specs.Replay.{OneClass}
-use Rattle.unifier_respond.specs.Shows.{TracedClosure, ProofRoom}
+use Rattle.unifier_respond.specs.Shows.{TracedClosure}
 use Rattle.unifier_respond.specs.Stands.{Known, StandingProved}
 use Rattle.unifier_respond.specs.declared.Standing.TheVariants as stands
 use Rattle.unifier_respond.proofs.ShowLaws.{down}
 
-pub positive : {k : ℕ} → (k ≡ 0 → ⊥) → 1 ≤ k
-positive n = omega arith
+-- what the test of an option tells
+pub told : {b r : Bool} → r ≡ b → r ≡ true → b ≡ true
+told e h = sym e ∙ h
 
-module _ (t : Terms) (e : Equations) (u v : ℕ) (table trace : List ℕ) (steps : ℕ) (k : Known t e u v table trace steps) where
+pub told_not : {b r : Bool} → r ≡ b → r ≡ false → b ≡ true → ⊥
+told_not e h k = true_is_false (sym k ∙ sym e ∙ h)
+
+module _ (t : Terms) (e : Equations) (u v : ℕ) (table : List ℕ) (es : List Entry) (k : Known t e u v table es) where
   pub all_formed : Formed t
   all_formed = formed t k.shape.terms
 
   pub a_table : Table table
   a_table = k.going.ready.table
 
-  pub left_small : u < 64
-  left_small = omega (arith, k.left_known, k.shape.terms.few)
-
-  pub right_small : v < 64
-  right_small = omega (arith, k.right_known, k.shape.terms.few)
-
   pub left_class : class table u < 64
-  left_class = class_small a_table u left_small
+  left_class = class_small a_table u (omega (arith, k.left_known, k.shape.terms.few))
 
   pub right_class : class table v < 64
-  right_class = class_small a_table v right_small
+  right_class = class_small a_table v (omega (arith, k.right_known, k.shape.terms.few))
 
-  pub proof_room : {buf : List ℕ} → buffer_bytes ≤ length buf → ProofRoom buf trace steps
-  proof_room h = record { buffer = h; trace_size = k.going.ready.size; few = omega (arith, k.going.ready.room) }
-
-  pub closed_table : TracedClosure (state_from t e) (take steps trace) table
+  pub closed_table : TracedClosure (state_from t e) es table
   closed_table = record { traced = k.going.traced; exact = k.going.exact }
 
-  pub joined : class table u ≡ class table v → OneClass (state_from t e) (take steps trace) u v
+  pub joined : class table u ≡ class table v → OneClass (state_from t e) es u v
   joined h = record { table = table; traced = k.going.traced; joined = h }
 
   not_same : (class table u ≡ class table v → ⊥) → Same (state_from t e) u v → ⊥
@@ -62,24 +59,24 @@ module _ (t : Terms) (e : Equations) (u v : ℕ) (table trace : List ℕ) (steps
       → StandingProved (state_from t e) u v before after (stands.Same n)
   stand_same h n before after p = (k.going.exact.only u v (node_in t e u k.left_known) (node_in t e v k.right_known) h, p)
 
-  module _ (apart : class table u ≡ class table v → ⊥) {parent place into level : List ℕ} (R : Reached t table parent place into level u) where
-    from_left : Searched (state_from t e) table parent place into level u
+  module _ (apart : class table u ≡ class table v → ⊥) {r : Search} (R : Reached t table r u) where
+    from_left : Searched (state_from t e) table r u
     from_left = down t e k.shape closed_table k.left_known R
 
-    pub stand_below : 1 ≤ level_of table level v → (n : ℕ) (before after : List ℕ) → ProofIn (state_from t e) (below_goal u v) n before after
+    pub stand_below : Reaches table r v → (n : ℕ) (before after : List ℕ) → ProofIn (state_from t e) (below_goal u v) n before after
         → StandingProved (state_from t e) u v before after (stands.Below n)
     stand_below h n before after p = (not_same apart, (from_left.reached v (node_in t e v k.right_known) h, p))
 
-    module _ (no : level_of table level v ≡ 0) {parents places intos levels : List ℕ} (Q : Reached t table parents places intos levels v) where
+    module _ (no : Reaches table r v → ⊥) {q : Search} (Q : Reached t table q v) where
       not_below : Below (state_from t e) u v → ⊥
-      not_below b = omega (arith, from_left.complete v b, no)
+      not_below b = no (from_left.complete v b)
 
-      from_right : Searched (state_from t e) table parents places intos levels v
+      from_right : Searched (state_from t e) table q v
       from_right = down t e k.shape closed_table k.right_known Q
 
-      pub stand_above : 1 ≤ level_of table levels u → (n : ℕ) (before after : List ℕ) → ProofIn (state_from t e) (below_goal v u) n before after
+      pub stand_above : Reaches table q u → (n : ℕ) (before after : List ℕ) → ProofIn (state_from t e) (below_goal v u) n before after
           → StandingProved (state_from t e) u v before after (stands.Above n)
       stand_above h n before after p = (not_same apart, (not_below, (from_right.reached u (node_in t e u k.left_known) h, p)))
 
-      pub stand_apart : level_of table levels u ≡ 0 → (before : List ℕ) → StandingProved (state_from t e) u v before before stands.Apart
-      stand_apart z before = (not_same apart, (not_below, ((λ b. omega (arith, from_right.complete u b, z)), refl)))
+      pub stand_apart : (Reaches table q u → ⊥) → (before : List ℕ) → StandingProved (state_from t e) u v before before stands.Apart
+      stand_apart z before = (not_same apart, (not_below, ((λ b. z (from_right.complete u b)), refl)))

@@ -10,13 +10,14 @@ use Rattle.store.specs.Views.{state_from}
 use Rattle.store.specs.Shape.{Shape}
 use Rattle.store.specs.declared.Terms.{Terms}
 use Rattle.store.specs.declared.Equations.{Equations}
+use Rattle.solve_trace.specs.declared.Entry.{Entry}
 use Rattle.solve.specs.Decided.{Resumable}
 use Rattle.unifier_respond.specs.declared.Standing.{Standing}
 use Rattle.unifier_respond.specs.declared.Standing.TheVariants as stands
 
-pub record Known (t : Terms) (e : Equations) (u v : ℕ) (table trace : List ℕ) (steps : ℕ) : Type 0 where
+pub record Known (t : Terms) (e : Equations) (u v : ℕ) (table : List ℕ) (es : List Entry) : Type 0 where
   pub shape : Shape t e
-  pub going : Resumable (state_from t e) table trace steps
+  pub going : Resumable (state_from t e) table es
   pub left_known : u < t.count
   pub right_known : v < t.count
 

@@ -1,160 +1,160 @@
 -- What each run of lines of a chain adds.
-use mathlib.Core.Path.{◌≡◌, refl}
-use mathlib.Core.List.{List}
-use Prim.Native.Nat.{ℕ, ◌+◌, ◌-◌, ◌≤◌, ◌<◌}
-use native.Mathlib.Omega.{arith}
-use native.Mathlib.Numerals.{add-one}
-use lib.ListN.{get_or}
-use Rattle.graph.specs.Lines.{same}
-use Rattle.solve_classes.specs.Table.{class}
-use Rattle.proof_lines.specs.Codec.{line, Put}
-use Rattle.proof_lines.specs.Proof.{Kept}
-use Rattle.write_runs.specs.Written.{ClaimAt, LinesClaim}
-use Rattle.write_runs.specs.Runs.{Linked}
-use Rattle.write_runs.proofs.Claims.{claim_child, claim_below_same, claim_same_below, claim_below_below, written_more, more_more, kept_put, kept_kept, kept_none}
-use Rattle.write_below.specs.Chain.{walk, Link, Descended, Risen, Arrived, Climbing, Climbed, Ascended}
+use Rattle.std.proofs.Common.{◌≡◌, ℕ, zero, suc, ◌+◌, ◌-◌, ◌≤◌, ◌<◌, List, [], ◌∷◌, length, get_or, take, drop, refl, ◌∙◌, arith, add-one}
+use lib.Seq.{take-suc, take_all}
+use Rattle.std.specs.List.{All}
+use Rattle.graph.specs.State.{State, IsNode}
+use Rattle.graph.specs.Lines.{Line, Claim, same, below}
+use Rattle.proof_lines.specs.Codec.{line}
+use Rattle.write_runs.specs.declared.Pen.{Pen}
+use Rattle.write_runs.specs.Pens.{NextLine}
+use Rattle.write_runs.specs.Written.{ClaimAt, LinesClaim, More}
+use Rattle.write_runs.specs.Runs.{Linked, LineForEach}
+use Rattle.write_runs.proofs.Claims.{claim_child, claim_below_same, claim_same_below, claim_below_below, written_more, more_more, goes_none, goes_line, goes_on}
+use Rattle.write_runs.proofs.RunLaws.{next_line}
+use Rattle.write_below.specs.declared.Rung.{Rung}
+use Rattle.write_below.specs.Steps.{upper, Connected}
+use Rattle.write_below.specs.Chain.{Link, Descended, Climbing, Climbed, Arrived, Ascended}
+use Rattle.write_below.proofs.StepLaws.{upper_more}
 
--- a number of lines, less one
-less_one : (n m : ℕ) → m ≡ n + 1 → m - 1 ≡ n
-less_one n m e = omega arith
+-- what was claimed is claimed, with no lines more
+stays : {s : State} {p : Pen} {cs : List Claim} {l : ℕ} {c : Claim} → LinesClaim s p cs → ClaimAt cs l c → More s cs p l c
+stays {cs = cs} W h = record { claims = cs; written = W; older = λ i d g. g; last = h }
 
-module _ {buf one : List ℕ} {n i j k q p r place : ℕ} (e : r ≡ p) (P : Put buf n (line 2 place r 0) one) where
-  pub descended_child : {m : ℕ} → k ≡ q → m ≡ n + 1 → Descended buf n i j k q p place one m
-  descended_child d z =
-      rw z
-      (record {
-        low = omega arith;
-        high = omega arith;
-        kept = kept_put refl P;
-        more = λ s cs x w hi hj hc.
-            rw (less_one n (n + 1) refl, ← d) (written_more s refl w (rw e at P) (claim_child s cs p place k hc));
-      })
+-- lines for each node are so after more lines
+still : {s : State} {q : Pen} {cs : List Claim} {l : ℕ} {k : Claim} {c : ℕ → ℕ} {from to : List ℕ} (a : More s cs q l k) → to ≡ from → LineForEach s cs c from
+    → LineForEach s a.claims c to
+still a e N x h = rw e (a.older _ _ (N x h))
 
-  pub descended_same : {two out : List ℕ} → Linked one (n + 1) i j two → Put two (n + 3) (line 5 0 n (n + 2)) out → Descended buf n i j k q p place out (n + 4)
-  descended_same {two} K Q =
+module _ {p o : Pen} {x : Rung} {l : ℕ} {m : Line} (em : m ≡ line 2 x.down.place x.down.parent 0) (M : NextLine p m o l) where
+  pub descended_child : x.down.into ≡ x.low → Descended p x o l
+  descended_child d =
+      let P = next_line em M in
       record {
-        low = omega arith;
-        high = omega arith;
-        kept = kept_kept {n = n + 3} (omega arith) (kept_kept {n = n + 1} (omega arith) (kept_put refl P) (kept_more K.kept (omega arith))) (kept_put (omega arith) Q);
-        more = λ s cs x w hi hj hc.
-            let a = written_more s {m = n + 1} refl w (rw e at P) (claim_child s cs p place k hc) in
-            let b = K.more s a.claims k q x a.written (a.older _ _ hi) (a.older _ _ hj) in
-            let z : n + 1 + 2 ≡ n + 3 = omega arith in
-            let y : n + 1 + 1 ≡ n + 2 = omega arith in
-            let B : LinesClaim s two (n + 3) b.claims = rw z at b.written in
-            let L : ClaimAt b.claims (n + 2) (same k q) = rw y at b.last in
-            rw (less_one (n + 3) (n + 4) (omega arith))
-            (more_more s a (more_more s b
-            (written_more s (omega arith) B Q (claim_below_same s b.claims n (n + 2) p k q (b.older n _ a.last) L))));
+        continues = goes_line P;
+        to = P.to;
+        low = omega (arith, P.count);
+        high = omega (arith, P.count);
+        last = omega (arith, P.count, P.number);
+        more = λ s cs c W N L. rw (← d) (written_more s W P (claim_child s cs x.down.parent x.down.place x.down.into L.step));
       }
-    where
-      kept_more : {buf out : List ℕ} {n m : ℕ} → Kept n buf out → n ≡ m → Kept m buf out
-      kept_more K e = rw e at K
 
-pub risen : {buf mid out : List ℕ} {n i j k q p place m : ℕ} → Descended buf n i j k q p place mid m
-    → Put mid m (line 5 0 (m - 1) (n - 1)) out → Risen buf n i j k q p place out (m + 1)
-risen {n = n} {q = q} {p} {m = m} D P =
+  pub descended_same : {n q : Pen} {k r : ℕ} {y : Line} → Linked o (get_or o.to x.down.into 0) (get_or o.to x.low 0) n k → y ≡ line 5 0 l k → NextLine n y q r
+      → Descended p x q r
+  descended_same {n} {q} {k} {r} K ey Y =
+      let P = next_line em M in
+      let Q = next_line ey Y in
+      record {
+        continues = goes_on (goes_line P) (goes_on K.continues (goes_line Q));
+        to = Q.to ∙ (K.to ∙ P.to);
+        low = omega (arith, P.count, K.count, Q.count);
+        high = omega (arith, P.count, K.count, Q.count);
+        last = omega (arith, Q.count, Q.number);
+        more = λ s cs c W N L.
+            let a = written_more s W P (claim_child s cs x.down.parent x.down.place x.down.into L.step) in
+            let A : LineForEach s a.claims c o.to = still a P.to N in
+            let low : ClaimAt a.claims (get_or o.to x.low 0) (same x.low (c x.down.into)) = rw L.together (A x.low L.low_known) in
+            let b = K.more s a.claims x.down.into x.low (c x.down.into) a.written (A x.down.into L.child_known) low in
+            more_more s a (more_more s b
+            (written_more s b.written Q (claim_below_same s b.claims l k x.down.parent x.down.into x.low (b.older l _ a.last) b.last)));
+      }
+
+-- ---- up to u
+
+pub arrived_there : {p : Pen} {u w l : ℕ} → u ≡ w → Arrived p u w l p l
+arrived_there {p} e =
     record {
-      low = omega (arith, D.low);
-      high = omega (arith, D.high);
-      kept = kept_kept {n = m} (omega arith) D.kept (kept_put refl P);
-      more = λ s cs x w h hi hj hc hb.
-          let a = D.more s cs x h hi hj hc in
-          rw (less_one m (m + 1) refl)
-          (more_more s a (written_more s refl a.written P (claim_below_below s a.claims (m - 1) (n - 1) p q w a.last (a.older (n - 1) _ hb))));
+      continues = goes_none p;
+      high = omega arith;
+      last = λ h. h;
+      more = λ s cs c v W N hu hw d h. rw e (stays W h);
     }
 
-pub arrived_there : {buf : List ℕ} {n i j u q : ℕ} → u ≡ q → Arrived buf n i j u q buf n
-arrived_there {n = n} e =
+pub arrived : {p o q : Pen} {u w l k r : ℕ} {y : Line} → Linked p (get_or p.to u 0) (get_or p.to w 0) o k → y ≡ line 5 0 k l → NextLine o y q r → Arrived p u w l q r
+arrived {p} {o} {q} {u} {w} {l} {k} K ey Y =
+    let Q = next_line ey Y in
     record {
-      low = omega arith;
-      high = omega arith;
-      kept = kept_none n;
-      more = λ s cs x v h hi hj hb. record { claims = cs; written = h; older = λ i d g. g; last = rw e hb };
-    }
-
-pub arrived : {buf mid out : List ℕ} {n i j u q x y z : ℕ} → Linked buf n i j mid → Put mid x (line 5 0 y z) out → x ≡ n + 2 → y ≡ n + 1 → z ≡ n - 1
-    → Arrived buf n i j u q out (n + 3)
-arrived {mid = mid} {out} {n = n} {u = u} {q} K R ex ey ez =
-    let P : Put mid (n + 2) (line 5 0 (n + 1) (n - 1)) out = (rw (ex, ey, ez) at R) in
-    record {
-      low = omega arith;
-      high = omega arith;
-      kept = kept_kept {n = n + 2} (omega arith) K.kept (kept_put (omega arith) P);
-      more = λ s cs x v h hi hj hb.
-          let a = K.more s cs u q x h hi hj in
-          rw (less_one (n + 2) (n + 3) (omega arith))
-          (more_more s a (written_more s (omega arith) a.written P (claim_same_below s a.claims (n + 1) (n - 1) u q v a.last (a.older (n - 1) _ hb))));
+      continues = goes_on K.continues (goes_line Q);
+      high = omega (arith, K.count, Q.count);
+      last = λ h. omega (arith, Q.count, Q.number);
+      more = λ s cs c v W N hu hw d h.
+          let there : ClaimAt cs (get_or p.to w 0) (same w (c u)) = rw d at (N w hw) in
+          let a = K.more s cs u w (c u) W (N u hu) there in
+          more_more s a (written_more s a.written Q (claim_same_below s a.claims k l u w v a.last (a.older l _ h)));
     }
 
 -- ---- all the steps
 
-module _ {buf : List ℕ} {n : ℕ} {t to parent place into : List ℕ} {from : ℕ} where
-  pub climbing_none : from < 64 → Climbing buf n t to parent place into from 1 from buf n
-  climbing_none h =
+-- the low node of step i is the upper end of those before it
+low_end : (w : ℕ) (xs : List Rung) (i : ℕ) (d : Rung) → Connected w xs → i < length xs → (get_or xs i d).low ≡ upper w (take i xs)
+low_end w [] i d C h = absurd (omega arith)
+low_end w (x ∷ xs) zero d C h = C.0
+low_end w (x ∷ xs) (suc i) d C h = low_end x.down.parent xs i d C.1 (omega arith)
+
+upper_known : {s : State} {c : ℕ → ℕ} (w : ℕ) (xs : List Rung) → IsNode s w → All (Link s c) xs → IsNode s (upper w xs)
+upper_known w [] h L = h
+upper_known w (x ∷ xs) h L = upper_known x.down.parent xs (L 0 x (omega arith)).parent_known (λ k d l. L (suc k) d (omega arith))
+
+module _ {p : Pen} {xs : List Rung} {l : ℕ} where
+  pub climbing_none : Climbing p xs l 0 p l
+  climbing_none =
       record {
-        some_steps = omega arith;
-        low = omega arith;
+        continues = goes_none p;
+        to = refl;
         high = omega arith;
-        small = h;
-        on_way = λ v e. e;
-        kept = kept_none n;
-        more = λ s cs c v w N C e hb. (rw e at (C 0 (omega arith)).parent_known, record { claims = cs; written = w; older = λ i d g. g; last = hb });
+        last = λ h. h;
+        more = λ s cs c w v W N C L h. stays W h;
       }
 
-  module _ {i q : ℕ} {out : List ℕ} {m : ℕ} (C : Climbing buf n t to parent place into from i q out m) where
-    -- the node that has the step down into q's class
-    abbrev up : ℕ
-    up = get_or parent (class t q) 0
-
-    pub climbing_more : {new : List ℕ} {w : ℕ} → up < 64
-        → Risen out m (get_or to (get_or into (class t q) 0) 0) (get_or to q 0) (get_or into (class t q) 0) q up (get_or place (class t q) 0) new w
-        → Climbing buf n t to parent place into from (i + 1) up new w
-    climbing_more {new} {w} h R =
+  module _ {i : ℕ} {q : Pen} {k : ℕ} (C : Climbing p xs l i q k) where
+    pub climbing_more : {o n : Pen} {y r : ℕ} {m : Line} (d : Rung) → i < length xs → Descended q (get_or xs i d) o y → m ≡ line 5 0 y k → NextLine o m n r
+        → Climbing p xs l (i + 1) n r
+    climbing_more {o} {n} {y} {r} d h D em M =
+        let P = next_line em M in
+        let x = get_or xs i d in
         record {
-          some_steps = omega arith;
-          low = omega (arith, C.low, R.low);
-          high = omega (arith, C.high, R.high);
-          small = h;
-          on_way = λ v e. rw (add-one i, C.on_way v e);
-          kept = kept_kept {n = m} (omega (arith, R.low)) C.kept R.kept;
-          more = λ s cs c v p N L e hb.
-              let b = (C.more s cs c v p N (λ j g. L j (omega arith)) e hb).1 in
-              let k : Link s c q up (get_or place (class t q) 0) (get_or into (class t q) 0) = (rw (C.on_way v e) at (L i (omega arith))) in
-              let low : ClaimAt b.claims (get_or to q 0) (same q (c (get_or into (class t q) 0))) = (rw k.together (b.older _ _ (N q k.low_known))) in (
-                k.parent_known,
-                more_more s b
-                    (R.more s b.claims (c (get_or into (class t q) 0)) v b.written (b.older _ _ (N (get_or into (class t q) 0) k.child_known)) low k.step b.last),
-              );
+          continues = goes_on C.continues (goes_on D.continues (goes_line P));
+          to = P.to ∙ (D.to ∙ C.to);
+          high = omega (arith, C.high, D.high, P.count);
+          last = λ z. omega (arith, P.count, P.number);
+          more = λ s cs c w v W N G L z.
+              let a = C.more s cs c w v W N G L z in
+              let b = D.more s a.claims c a.written (still a C.to N) (L i d h) in
+              let low : ClaimAt a.claims k (below x.low v) = rw (low_end w xs i d G h) a.last in
+              rw (add-one i, take-suc xs i d h, upper_more w (take i xs) x)
+              (more_more s a (more_more s b
+              (written_more s b.written P (claim_below_below s b.claims y k x.down.parent x.low v b.last (b.older k _ low)))));
         }
 
-    pub climbed : {new : List ℕ} {l u w : ℕ} → i ≡ l → Arrived out m (get_or to u 0) (get_or to q 0) u q new w
-        → Climbed buf n t to parent place into u from l new w
-    climbed {new} {l} {u} {w} z A =
+    pub climbed : i ≡ length xs → Climbed p xs l q k
+    climbed e =
         record {
-          low = omega (arith, C.low, A.low);
-          high = omega (arith, C.high, A.high);
-          kept = kept_kept {n = m} A.low C.kept A.kept;
-          more = λ s cs c v p N L e hu d hb.
-              let B = C.more s cs c v p N (λ j g. L j (omega arith)) e hb in
-              let b = B.1 in
-              let y : walk t parent v l ≡ q = rw z at (C.on_way v e) in
-              let x : c q ≡ c u = rw y at d in
-              let k : ClaimAt b.claims (get_or to q 0) (same q (c u)) = (rw x at (b.older _ _ (N q B.0))) in
-              more_more s b (A.more s b.claims (c u) v b.written (b.older _ _ (N u hu)) k b.last);
+          continues = C.continues;
+          to = C.to;
+          high = rw e at C.high;
+          last = C.last;
+          more = λ s cs c w v W N G L z. (rw (take_all i xs (omega (arith, e))) at (C.more s cs c w v W N G L z));
         }
 
-pub ascended : {buf mid out : List ℕ} {n m w : ℕ} {t to parent place into : List ℕ} {u v l : ℕ} → 1 ≤ l
-    → Descended buf n (get_or to (get_or into (class t v) 0) 0) (get_or to v 0) (get_or into (class t v) 0) v (get_or parent (class t v) 0) (get_or place (class t v) 0) mid m
-    → Climbed mid m t to parent place into u (get_or parent (class t v) 0) l out w → Ascended buf n t to parent place into u v l out w
-ascended {n = n} {m} {w} {t} {to} {parent} {place} {into} {u} {v} {l} h D C =
+-- the first step, those past it, and u
+pub ascended : {p o q r : Pen} {u w l k j : ℕ} (xs : List Rung) (d : Rung) → 1 ≤ length xs → Descended p (get_or xs 0 d) o l
+    → Climbed o (take (length xs - 1) (drop 1 xs)) l q k → ((v : ℕ) → w ≡ upper v xs) → Arrived q u w k r j → Ascended p xs u r
+ascended [] d h D K t A = absurd (omega arith)
+ascended {p} {o} {q} {r} {u} {w} {l} {k} {j} (x ∷ xs) d h D K t A =
+    let all : take (length (x ∷ xs) - 1) xs ≡ xs = take_all (length (x ∷ xs) - 1) xs (omega arith) in
+    let U : Climbed o xs l q k = rw all at K in
+    let end : r.lines ≡ j + 1 = A.last (U.last D.last) in
     record {
-      low = omega (arith, D.low, C.low);
-      high = omega (arith, D.high, C.high);
-      kept = kept_kept {n = m} C.low D.kept C.kept;
-      more = λ s cs c p N L hu e.
-          let k = L 0 (omega arith) in
-          let low : ClaimAt cs (get_or to v 0) (same v (c (get_or into (class t v) 0))) = (rw k.together (N v k.low_known)) in
-          let a = D.more s cs (c (get_or into (class t v) 0)) p (N (get_or into (class t v) 0) k.child_known) low k.step in
-          more_more s a (C.more s a.claims c v a.written (λ x g. a.older _ _ (N x g)) L refl hu e a.last);
+      continues = goes_on D.continues (goes_on U.continues A.continues);
+      low = omega (arith, D.low, U.continues.low, A.continues.low);
+      high = omega (arith, D.high, U.high, A.high);
+      more = λ s cs c v W N C L hu e.
+          let a = D.more s cs c W N (L 0 d (omega arith)) in
+          let first : ClaimAt a.claims l (below x.down.parent v) = rw C.0 at a.last in
+          let b = U.more s a.claims c x.down.parent v a.written (still a D.to N) C.1 (λ k d l. L (suc k) d (omega arith)) first in
+          let top : IsNode s w = rw (t v) (upper_known x.down.parent xs (L 0 d (omega arith)).parent_known (λ k d l. L (suc k) d (omega arith))) in
+          let same : c w ≡ c u = rw (t v) e in
+          let high : ClaimAt b.claims k (below w v) = rw (t v) b.last in
+          let m = A.more s b.claims c v b.written (still b U.to (still a D.to N)) hu top same high in
+          let z : r.lines - 1 ≡ j = omega (arith, end) in
+          rw z (more_more s a (more_more s b m));
     }

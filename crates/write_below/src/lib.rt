@@ -1,238 +1,234 @@
-// Lines that end in u below v: from v back up to u, a step down at a time. For each node, `to` has the number of a line that
-// claims the node same its root; `parent`, `place`, `into` and `level` say how each class was reached from u: see `solve_reach`.
+// Lines that end in u below v: from v back up to u, a step down at a time, by how each class was reached from u: see `solve_reach`.
 #![tactic(auto)]
 
-ghost use Rattle.std.specs.Prelude.{◌≡◌, ℕ, ◌+◌, ◌-◌, ◌≤◌, ◌<◌, length, get_or};
-ghost use Rattle.graph.specs.Limits.{node_limit, line_limit, buffer_bytes};
+ghost use Rattle.std.specs.Prelude.{◌≡◌, ℕ, List, [], ◌∷◌, ◌++◌, ◌+◌, ◌≤◌, ◌<◌, length, take, map};
+ghost use Rattle.graph.specs.Limits.{node_limit, buffer_bytes};
 ghost use Rattle.solve_classes.specs.Table.{Table};
-ghost use Rattle.solve_reach.specs.Reach.{level_of, Ways};
+ghost use Rattle.solve_reach.specs.Reach.{Reaches, Ways};
+ghost use Rattle.write_runs.specs.Pens.{Takes};
 ghost use Rattle.write_needed.specs.Entries.{AllInRange};
-ghost use Rattle.write_below.specs.Chain.{Descended, Risen, Arrived, Climbed, Way, Top, Ascended, Lowered, Circled};
+ghost use Rattle.write_below.specs.declared.Rung.{Rung};
+ghost use Rattle.write_below.specs.Steps.{pair_of, upper, OnNodes, AllOnNodes, Leads, Top};
+ghost use Rattle.write_below.specs.Chain.{Descended, Climbed, Arrived, Ascended, Lowered, Circled};
 
-use solve_reach::Search;
+use proof_lines::Fields;
+use solve_reach::{Down, Search};
+use solve_trace::Trace;
+use std::marker::Model;
+use store::{Equations, Terms};
+use write_runs::Pen;
 
-fn wide(x: u8) -> u16
-    ensures { result ≡ x }
-{
-    x as u16
+// A rung of a way up: a step down into the class of node `low`.
+#[derive(Clone, Copy)]
+struct Rung {
+    down: Down,
+    low: u8,
 }
 
-// From lines `i`, k same x, and `j`, q same x, where `k` is the child of `p` at `place`: p below q, in one line or four.
-fn descend(buf: &mut [u8], n: usize, i: u16, j: u16, k: u8, q: u8, p: u8, place: u8) -> usize
-    requires { (n + 4 ≤ line_limit) × (buffer_bytes ≤ length buf.old) }
-    ensures { Descended buf.old n i j k q p place buf.new result }
-{
-    proof_lines::put_line(buf, n, 2, place, wide(p), 0);
-    if k == q {
-        return n + 1;
-    }
-    write_runs::link(buf, n + 1, i, j);
-    proof_lines::put_line(buf, n + 3, 5, 0, n as u16, n as u16 + 2);
-    n + 4
+// A way up, its lowest rung first: at most 64, since their levels fall. No generic list with `Trace`: such a struct holds no array of a
+// type parameter.
+#[derive(Drop)]
+struct Way {
+    steps: [Rung; 64],
+    count: usize,
 }
 
-// The same where line n - 1 claims q below v: p below v, in one line more.
-fn rise(buf: &mut [u8], n: usize, i: u16, j: u16, k: u8, q: u8, p: u8, place: u8) -> usize
-    requires { (1 ≤ n) × ((n + 5 ≤ line_limit) × (buffer_bytes ≤ length buf.old)) }
-    ensures { Risen buf.old n i j k q p place buf.new result }
-{
-    let m = descend(buf, n, i, j, k, q, p, place);
-    proof_lines::put_line(buf, m, 5, 0, m as u16 - 1, n as u16 - 1);
-    m + 1
+impl Model for Way {
+    ghost Value = { List Rung };
+
+    ghost view = { λ w. take w.count w.steps };
+
+    ghost invariant = { λ w. (w.count ≤ 64) × (length w.steps ≡ 64) };
 }
 
-// From lines `i`, u same x, `j`, q same x, and n - 1, q below v: u below v, in three lines or none.
-fn arrive(buf: &mut [u8], n: usize, i: u16, j: u16, u: u8, q: u8) -> usize
-    requires { (1 ≤ n) × ((n + 3 ≤ line_limit) × (buffer_bytes ≤ length buf.old)) }
-    ensures { Arrived buf.old n i j u q buf.new result }
-{
-    if u == q {
-        return n;
-    }
-    write_runs::link(buf, n, i, j);
-    proof_lines::put_line(buf, n + 2, 5, 0, n as u16 + 1, n as u16 - 1);
-    n + 3
-}
-
-// Line n - 1 claims from below v, where `from` is one step up: lines that end in u below v, `l` steps up.
-fn climb(
-    buf: &mut [u8],
-    n: usize,
-    table: [u8; 64],
-    to: &[u16; 64],
-    parent: &[u8; 64],
-    place: &[u8; 64],
-    into: &[u8; 64],
-    u: u8,
-    from: u8,
-    l: usize,
-) -> usize
-    requires le_n { (1 ≤ n) × ((n + 318 ≤ line_limit) × (buffer_bytes ≤ length buf.old)) }
-    requires u_bound { (u < 64) × ((from < 64) × ((1 ≤ l) × (l ≤ 64))) }
-    requires table { Table table }
-    requires by_index { (d : ℕ) → d < 64 → (get_or parent.now d 0 < 64) × (get_or into.now d 0 < 64) }
-    ensures { Climbed buf.old n table to.now parent.now place.now into.now u from l buf.new result }
-{
-    let mut m = n;
-    let mut q = from;
-    let mut i: usize = 1;
-    while i < l {
-        let d = table[q as usize];
-        let p = parent[d as usize];
-        let k = into[d as usize];
-        let more = rise(
-            buf,
-            m,
-            to[k as usize],
-            to[q as usize],
-            k,
-            q,
-            p,
-            place[d as usize],
-        );
-        m = more;
-        q = p;
-        i += 1;
-    }
-    arrive(buf, m, to[u as usize], to[q as usize], u, q)
-}
-
-// The way up from v to u's class: how many steps, and for each the child that it leads to and the lower node, which are of one class.
-fn way(table: [u8; 64], search: Search, u: u8, v: u8, xs: &mut [u8; 64], ys: &mut [u8; 64]) -> usize
-    requires xs_len { (length xs.old ≡ 64) × (length ys.old ≡ 64) }
-    requires u_bound { (u < 64) × ((v < 64) × (Ways table search.parent search.into search.level u × (1 ≤ level_of table search.level v))) }
-    requires table { Table table }
-    ensures { Way table search.parent search.into search.level u v result xs.new ys.new }
-{
-    let mut q = v;
-    let mut i: usize = 0;
-    loop {
-        let d = table[q as usize];
-        xs[i] = search.into[d as usize];
-        ys[i] = q;
-        q = search.parent[d as usize];
-        i += 1;
-        if table[q as usize] == table[u as usize] {
-            return i;
+impl Way {
+    fn new() -> Way
+        ensures { result ≡ [] }
+    {
+        let down = Down {
+            parent: 0,
+            place: 0,
+            into: 0,
+            level: 0,
+        };
+        Way {
+            steps: [Rung { down, low: 0 }; 64],
+            count: 0,
         }
     }
+
+    fn push(&mut self, step: Rung)
+        requires { length self.old < 64 }
+        ensures { self.new ≡ self.old ++ step ∷ [] }
+    {
+        self.steps[self.count] = step;
+        self.count += 1;
+    }
+
+    fn as_slice(&self) -> &[Rung]
+        ensures { result.now ≡ self.now }
+    {
+        &self.steps[..self.count]
+    }
+
+    // The two nodes of one class at the lower end of each step, for the steps there are. By `steps.map` the proof didn't close.
+    fn pairs(&self) -> [(u8, u8); 64]
+        ensures { take (length self.now) result ≡ map pair_of self.now }
+    {
+        let mut pairs = [(0, 0); 64];
+        for (i, step) in self.steps[..self.count].iter().enumerate() {
+            pairs[i] = (step.down.into, step.low);
+        }
+        pairs
+    }
 }
 
-// Lines that end in u below v, `l` steps up from v.
-fn ascend<'a>(
-    buf: &mut [u8],
-    n: usize,
-    table: [u8; 64],
-    to: &[u16; 64],
-    parent: &'a [u8; 64],
-    place: &'a [u8; 64],
-    into: &'a [u8; 64],
-    u: u8,
-    v: u8,
-    l: usize,
-) -> usize
-    requires n_bound { (n + 322 ≤ line_limit) × (buffer_bytes ≤ length buf.old) }
-    requires u_bound { (u < 64) × ((v < 64) × ((1 ≤ l) × (l ≤ 64))) }
+// The way up from v to u's class.
+fn way_up(table: [u8; 64], search: &Search, u: u8, v: u8) -> Way
+    requires u_bound { (u < 64) × (v < 64) }
+    requires ways { Ways table search.now u × Reaches table search.now v }
     requires table { Table table }
-    requires by_index { (d : ℕ) → d < 64 → (get_or parent.now d 0 < 64) × (get_or into.now d 0 < 64) }
-    ensures { Ascended buf.old n table to.now parent.now place.now into.now u v l buf.new result }
+    ensures { Leads table search.now u v result }
 {
-    let d = table[v as usize];
-    let p = parent[d as usize];
-    let k = into[d as usize];
-    let m = descend(
-        buf,
-        n,
-        to[k as usize],
-        to[v as usize],
-        k,
-        v,
-        p,
-        place[d as usize],
-    );
-    climb(buf, m, table, to, parent, place, into, u, p, l)
+    let mut way = Way::new();
+    let mut low = v;
+    while let Some(down) = search.reached[table[low as usize] as usize] {
+        way.push(Rung { down, low });
+        low = down.parent;
+        if table[low as usize] == table[u as usize] {
+            return way;
+        }
+    }
+    way
+}
+
+// The node at the upper end of a way.
+fn top_of(steps: &[Rung]) -> u8
+    requires { 1 ≤ length steps.now }
+    ensures { (v : ℕ) → result ≡ upper v steps.now }
+{
+    steps[steps.len() - 1].down.parent
 }
 
 // The node of u's class at which the way down from u that leads back to it begins.
-fn top(table: [u8; 64], search: Search, u: u8) -> u8
-    requires u_bound { (u < 64) × (Ways table search.parent search.into search.level u × (1 ≤ level_of table search.level u)) }
+fn top(table: [u8; 64], search: &Search, u: u8) -> u8
+    requires u_bound { u < 64 }
+    requires ways { Ways table search.now u × Reaches table search.now u }
     requires table { Table table }
-    ensures { Top table search.parent search.level u result }
+    ensures { Top table search.now u result }
 {
-    let mut xs = [0u8; 64];
-    let mut ys = [0u8; 64];
-    let l = way(table, search, u, u, &mut xs, &mut ys);
-    let last = table[ys[l - 1] as usize];
-    search.parent[last as usize]
+    top_of(way_up(table, search, u, u).as_slice())
 }
 
-// Lines that end in u below v, where `table` is the trace's and the search from u reached v's class.
-pub fn explain_below<'a>(
+// The step's parent below its low node, in one line or four.
+fn descend(pen: &mut Pen, step: Rung) -> u16
+    requires room { Takes pen.old 4 }
+    requires on_nodes { OnNodes step }
+    ensures { Descended pen.old step pen.new result }
+{
+    let Down {
+        parent,
+        place,
+        into,
+        level: _,
+    } = step.down;
+    let down = pen.put(Fields::child(u16::from(parent), place));
+    if into == step.low {
+        return down;
+    }
+    let i = pen.to[into as usize];
+    let j = pen.to[step.low as usize];
+    let same = pen.link(i, j);
+    pen.put(Fields::transitivity(down, same))
+}
+
+// From line `l`, the low node of the first step below v: the parent of the last step below v, in five lines a step at most.
+fn climb(pen: &mut Pen, steps: &[Rung], l: u16) -> u16
+    requires room { (length steps.now ≤ 63) × Takes pen.old 315 }
+    requires on_nodes { AllOnNodes steps.now }
+    ensures { Climbed pen.old steps.now l pen.new result }
+{
+    let mut last = l;
+    for step in steps {
+        let down = descend(pen, *step);
+        let longer = pen.put(Fields::transitivity(down, last));
+        last = longer;
+    }
+    last
+}
+
+// From line `l`, q below v, where u and q are of one class: u below v, in three lines or none.
+fn arrive(pen: &mut Pen, u: u8, q: u8, l: u16) -> u16
+    requires room { Takes pen.old 3 }
+    requires u_bound { (u < 64) × (q < 64) }
+    ensures { Arrived pen.old u q l pen.new result }
+{
+    if u == q {
+        return l;
+    }
+    let i = pen.to[u as usize];
+    let j = pen.to[q as usize];
+    let same = pen.link(i, j);
+    pen.put(Fields::transitivity(same, l))
+}
+
+// Lines that end in u below v, by the way up from v to u's class.
+fn ascend(pen: &mut Pen, steps: &[Rung], u: u8)
+    requires room { (1 ≤ length steps.now) × ((length steps.now ≤ 64) × Takes pen.old 322) }
+    requires on_nodes { AllOnNodes steps.now }
+    requires u_bound { u < 64 }
+    ensures { Ascended pen.old steps.now u pen.new }
+{
+    let first = descend(pen, steps[0]);
+    let highest = climb(pen, &steps[1..], first);
+    arrive(pen, u, top_of(steps), highest);
+}
+
+// Lines that end in u below v, where `table` is the trace's and the search from u reached v's class. Gives their number.
+pub fn explain_below(
     buf: &mut [u8],
-    nodes: usize,
-    trace: &[u16; 64],
-    steps: usize,
-    name: &'a [u16; 256],
-    left: &'a [u8; 256],
-    right: &'a [u8; 256],
-    child: &'a [u8; 256],
+    t: &Terms,
+    e: &Equations,
+    trace: &Trace,
     table: [u8; 64],
-    search: Search,
+    search: &Search,
     u: u8,
     v: u8,
 ) -> usize
-    requires nodes_le_node_limit { (nodes ≤ node_limit) × ((steps ≤ 63) × (buffer_bytes ≤ length buf.old)) }
-    requires trace_len { (length trace.now ≡ 64) × AllInRange trace.now steps left.now right.now child.now }
-    requires u_bound { (u < 64) × ((v < 64) × (Ways table search.parent search.into search.level u × (1 ≤ level_of table search.level v))) }
+    requires room { (t.now.count ≤ node_limit) × ((length trace.now ≤ 63) × (buffer_bytes ≤ length buf.old)) }
+    requires in_range { AllInRange t.now e.now trace.now }
+    requires u_bound { (u < 64) × (v < 64) }
+    requires ways { Ways table search.now u × Reaches table search.now v }
     requires table { Table table }
-    ensures { Lowered nodes name.now left.now right.now child.now trace.now steps table search.parent search.place search.into search.level buf.old u v buf.new result }
+    ensures { Lowered t.now e.now trace.now table search.now buf.old u v buf.new result }
 {
-    let mut xs = [0u8; 64];
-    let mut ys = [0u8; 64];
-    let l = way(table, search, u, v, &mut xs, &mut ys);
-    let last = table[ys[l - 1] as usize];
-    let first = search.parent[last as usize];
-    let mut to = [0u16; 64];
-    let n = write_same::prepare(
-        buf, nodes, trace, steps, name, left, right, child, u, first, &xs, &ys, l, &mut to,
-    );
-    ascend(
-        buf,
-        n,
-        table,
-        &to,
-        &search.parent,
-        &search.place,
-        &search.into,
-        u,
-        v,
-        l,
-    )
+    let way = way_up(table, search, u, v);
+    let steps = way.as_slice();
+    let pairs = way.pairs();
+    let top = top_of(steps);
+    let mut pen = write_same::prepare(buf, t, e, trace, u, top, &pairs[..steps.len()]);
+    ascend(&mut pen, steps, u);
+    pen.lines
 }
 
 // Lines that end in p below p, where the search from u led back to its class: p is the node of that class at which the way down begins.
 // From u itself the lines would go to p and back again, each time that they are unfolded.
-pub fn explain_cycle<'a>(
+pub fn explain_cycle(
     buf: &mut [u8],
-    nodes: usize,
-    trace: &[u16; 64],
-    steps: usize,
-    name: &'a [u16; 256],
-    left: &'a [u8; 256],
-    right: &'a [u8; 256],
-    child: &'a [u8; 256],
+    t: &Terms,
+    e: &Equations,
+    trace: &Trace,
     table: [u8; 64],
-    search: Search,
+    search: &Search,
     u: u8,
 ) -> usize
-    requires nodes_le_node_limit { (nodes ≤ node_limit) × ((steps ≤ 63) × (buffer_bytes ≤ length buf.old)) }
-    requires trace_len { (length trace.now ≡ 64) × AllInRange trace.now steps left.now right.now child.now }
-    requires u_bound { (u < 64) × (Ways table search.parent search.into search.level u × (1 ≤ level_of table search.level u)) }
+    requires room { (t.now.count ≤ node_limit) × ((length trace.now ≤ 63) × (buffer_bytes ≤ length buf.old)) }
+    requires in_range { AllInRange t.now e.now trace.now }
+    requires u_bound { u < 64 }
+    requires ways { Ways table search.now u × Reaches table search.now u }
     requires table { Table table }
-    ensures { Circled nodes name.now left.now right.now child.now trace.now steps table search.parent search.place search.into search.level buf.old buf.new result }
+    ensures { Circled t.now e.now trace.now table search.now buf.old buf.new result }
 {
     let p = top(table, search, u);
-    explain_below(
-        buf, nodes, trace, steps, name, left, right, child, table, search, p, p,
-    )
+    explain_below(buf, t, e, trace, table, search, p, p)
 }

@@ -1,102 +1,107 @@
 -- Entries that stand make a trace, as far as the code tests them; entries dropped one by one.
-use mathlib.Core.Path.{◌≡◌, refl, sym, ◌∙◌}
-use mathlib.Core.Bool.{Bool, true, false, not}
-use mathlib.Core.List.{List}
-use Prim.Native.Nat.{ℕ, ◌+◌, ◌≤◌, ◌<◌}
-use native.Mathlib.Omega.{arith}
-use native.Mathlib.Numerals.{add-one}
-use lib.ListN.{length, get_or, set, take, length-set}
-use lib.Seq.{take-suc, get_or-set_same, get_or-set_other}
-use borrow.Author.Count.{below_more}
-use Rattle.graph.specs.State.{State}
-use Rattle.solve_classes.specs.Table.{class, Fresh, Merged}
-use Rattle.solve_trace.specs.Packing.{first_of, second_of}
+use Rattle.std.proofs.Common.{◌≡◌, ℕ, ◌+◌, ◌-◌, ◌≤◌, ◌<◌, List, [], ◌∷◌, ◌++◌, length, get_or, take, drop, Some, refl, sym, ◌∙◌, arith, append_assoc, append-nil, add-one, length-append, length-take-le, length-drop}
+use lib.Seq.{take-suc, take_all}
+use Rattle.std.specs.List.{All, Contains}
+use Rattle.std.proofs.lemmas.List.Elements.{All-append, All-contains, All-contains_itself, All-take, All-drop, All-pop}
+use Rattle.store.specs.declared.Terms.{Terms}
+use Rattle.store.specs.declared.Equations.{Equations}
+use Rattle.solve_classes.specs.Table.{class, Table, Fresh, Merged}
+use Rattle.solve_trace.specs.declared.Entry.{Entry}
 use Rattle.solve_trace.specs.Trace.{Reason, start, merge}
-use Rattle.write_needed.specs.Entries.{end_at, AllInRange, Together, AllReasonsHold}
-use Rattle.write_needed.specs.Trim.{PairsTogether, Rebuilt, Rejoins, Among, Trimmed}
+use Rattle.write_needed.specs.Entries.{left_end, right_end, InRange, AllInRange, Together, ReasonHolds}
+use Rattle.write_needed.specs.Trim.{PairsTogether, Rebuilt, Extended, Rejoins, Among, Trimmed}
 use Rattle.write_needed.proofs.EntryLaws.{entry_ends, trace_stands}
-use Rattle.base.proofs.AbsurdLaws.{zero_is_one}
 
-pub passed : (b : Bool) → not b ≡ false → b ≡ true
-passed true e = refl
-passed false e = zero_is_one cc
-
-module _ {left right child trace : List ℕ} {l : ℕ} where
-  pub rebuilt_none : {t : List ℕ} → Fresh t → Rebuilt left right child trace l 0 t
+module _ {g : Terms} {q : Equations} where
+  pub rebuilt_none : {t : List ℕ} → Fresh t → Rebuilt g q [] t
   rebuilt_none F = record { table = F.table; traced = λ s D A. start F }
 
-  module _ {k : ℕ} {t : List ℕ} (B : Rebuilt left right child trace l k t) where
-    pub rebuilt_more : {r : List ℕ} {a b : ℕ} → k < l → l ≤ length trace
-        → a ≡ end_at left child (first_of (get_or trace k 0)) (get_or trace k 0) → b ≡ end_at right child (second_of (get_or trace k 0)) (get_or trace k 0)
-        → (class t a ≡ class t b → ⊥) → Together t (get_or trace k 0) → Merged t a b r → Rebuilt left right child trace l (k + 1) r
-    rebuilt_more {r} {a} {b} h g ea eb apart near m =
-        record {
-          table = m.table;
-          traced = λ s D A.
-              let e = A k h in
-              let w = e.reason t near in
-              let z = entry_ends s D w in
-              let x : e.left ≡ a = sym z.0 ∙ sym ea in
-              let y : e.right ≡ b = sym z.1 ∙ sym eb in
-              let v : Reason s t (get_or trace k 0) a b = rw (x, y) at w in
-              rw (add-one k, take-suc trace k 0 (omega arith)) (merge (take k trace) (get_or trace k 0) (B.traced s D A) v apart m);
-        }
+  rebuilt_more : {es : List Entry} {t r : List ℕ} (e : Entry) {a b : ℕ} → Rebuilt g q es t → a ≡ left_end g q e → b ≡ right_end g q e
+      → (class t a ≡ class t b → ⊥) → Together t e → Merged t a b r → Rebuilt g q (es ++ (e ∷ [])) r
+  rebuilt_more {es} {t} {r} e {a} {b} B ea eb apart near m =
+      record {
+        table = m.table;
+        traced = λ s D A.
+            let h = All-pop (ReasonHolds s) (es ++ (e ∷ [])) es (Some e) refl A in
+            let H : ReasonHolds s e = h.1 in
+            let w = H.reason t near in
+            let z = entry_ends s D w in
+            let x : H.left ≡ a = sym z.0 ∙ sym ea in
+            let y : H.right ≡ b = sym z.1 ∙ sym eb in
+            let v : Reason s t e a b = rw (x, y) at w in
+            merge es e (B.traced s D h.0) v apart m;
+      }
 
-    pub rejoins : {u v n : ℕ} {xs ys : List ℕ} → k ≡ l → class t u ≡ class t v → PairsTogether t xs ys n → Rejoins left right child trace l u v xs ys n
-    rejoins q e p = λ s D A. record { table = t; traced = rw q at (B.traced s D A); joined = e; pairs = p }
+  -- ---- made on from a table
+
+  pub extended_none : {t : List ℕ} → Table t → Extended g q t [] t
+  extended_none T = record { table = T; on = λ ds B. rw (append-nil ds) B }
+
+  -- the entry at place k joins a and b
+  pub extended_more : {t u r : List ℕ} (es : List Entry) {k : ℕ} (d : Entry) {a b : ℕ} → k < length es → Extended g q t (take k es) u
+      → a ≡ left_end g q (get_or es k d) → b ≡ right_end g q (get_or es k d) → (class u a ≡ class u b → ⊥) → Together u (get_or es k d) → Merged u a b r
+      → Extended g q t (take (k + 1) es) r
+  extended_more es {k} d h X ea eb apart near m =
+      record {
+        table = m.table;
+        on = λ ds B.
+            rw (add-one k, take-suc es k d h, ← append_assoc ds (take k es) (get_or es k d ∷ []))
+            (rebuilt_more (get_or es k d) (X.on ds B) ea eb apart near m);
+      }
+
+  pub rejoins : {f t r : List ℕ} {before after : List Entry} {u v : ℕ} {ps : List (ℕ × ℕ)} → Fresh f → Extended g q f before t → Extended g q t after r
+      → class r u ≡ class r v → PairsTogether r ps → Rejoins g q (before ++ after) u v ps
+  rejoins {r = r} {before} F X Y e p =
+      λ s D A. record { table = r; traced = (Y.on before (X.on [] (rebuilt_none F))).traced s D A; joined = e; pairs = p }
 
 -- ---- entries of another list
 
-module _ {trace : List ℕ} {l : ℕ} where
-  pub among_none : {few : List ℕ} → length few ≡ 64 → Among few 0 trace l
-  among_none e = record { size = e; from = λ i h. absurd (omega arith) }
+pub among_same : (es : List Entry) → Among es es
+among_same es = All-contains_itself es
 
-  pub among_more : {few : List ℕ} {n j : ℕ} → n < 64 → j < l → Among few n trace l → Among (set few n (get_or trace j 0)) (n + 1) trace l
-  among_more {few} {n} {j} h g A =
-      record {
-        size = length-set few n (get_or trace j 0) ∙ A.size;
-        from =
-            below_more (λ i. (k : ℕ) × ((k < l) × (get_or (set few n (get_or trace j 0)) i 0 ≡ get_or trace k 0))) n
-            (λ i q.
-            let w = A.from i q in
-            (w.0, (w.1.0, get_or-set_other few n i (get_or trace j 0) 0 (λ z. omega (arith, z)) ∙ w.1.1)))
-            (j, (g, get_or-set_same few n (get_or trace j 0) 0 (omega (arith, A.size))));
-      }
+pub among_all : (P : Entry → Type 0) (few es : List Entry) → Among few es → All P es → All P few
+among_all P few es A H = λ k d h. All-contains P es (get_or few k d) H (A k d h)
 
-  pub among_all : {few : List ℕ} {n m : ℕ} → n ≡ m → Among few n trace l → Among few m trace l
-  among_all e A = rw e at A
-
-  pub among_same : length trace ≡ 64 → Among trace l trace l
-  among_same e = record { size = e; from = λ i h. (i, (h, refl)) }
-
-  among_among : {few less : List ℕ} {n m : ℕ} → Among few n trace l → Among less m few n → Among less m trace l
-  among_among A B =
-      record {
-        size = B.size;
-        from = λ i h.
-            let w = B.from i h in
-            let v = A.from w.0 w.1.0 in
-            (v.0, (v.1.0, w.1.1 ∙ v.1.1));
-      }
-
-  pub among_range : {few left right child : List ℕ} {n : ℕ} → Among few n trace l → AllInRange trace l left right child → AllInRange few n left right child
-  among_range A R i h = let w = A.from i h in rw w.1.1 (R w.0 w.1.0)
-
-  among_stands : {few : List ℕ} {n : ℕ} (s : State) → Among few n trace l → AllReasonsHold s trace l → AllReasonsHold s few n
-  among_stands s A R i h = let w = A.from i h in rw w.1.1 (R w.0 w.1.0)
+-- all but one
+pub among_but : (es : List Entry) (k : ℕ) → Among (take k es ++ drop (k + 1) es) es
+among_but es k =
+    All-append (Contains es) (take k es) (drop (k + 1) es)
+    (All-take (Contains es) k es (All-contains_itself es))
+    (All-drop (Contains es) (k + 1) es (All-contains_itself es))
 
 -- ---- one entry dropped, or not
 
-module _ {left right child trace : List ℕ} {l u v n : ℕ} {xs ys : List ℕ} where
-  pub trimmed_none : length trace ≡ 64 → Trimmed left right child trace l u v xs ys n trace l
-  trimmed_none e = record { less = omega arith; among = among_same e; joins = λ s D J. J }
+-- the slice past place k
+abbrev pub slice_end : List Entry → ℕ → List Entry
+slice_end w k = take (length w - (k + 1)) (drop (k + 1) w)
 
-  pub trimmed_more : {few less : List ℕ} {m k : ℕ} → l ≤ length trace → Trimmed left right child trace l u v xs ys n few m → k ≤ m → Among less k few m
-      → Rejoins left right child less k u v xs ys n → Trimmed left right child trace l u v xs ys n less k
-  trimmed_more h T g A R =
-      let B = among_among T.among A in
-      record {
-        less = omega (arith, T.less);
-        among = B;
-        joins = λ s D J. R s D (among_stands s B (trace_stands s D trace l J.table h J.traced));
-      }
+end_all : (w : List Entry) (k : ℕ) → slice_end w k ≡ drop (k + 1) w
+end_all w k = take_all (length w - (k + 1)) (drop (k + 1) w) (omega (arith, length-drop (k + 1) w))
+
+module _ {g : Terms} {q : Equations} {es : List Entry} {u v : ℕ} {ps : List (ℕ × ℕ)} where
+  pub trimmed_none : {few w : List Entry} {n : ℕ} → w ≡ es → few ≡ w ++ [] → n ≡ length es → (n ≤ length few) × Trimmed g q es u v ps few
+  trimmed_none e f h =
+      rw (f, e, append-nil es) (omega (arith, h), record { less = omega arith; among = among_same es; joins = λ s D J. J })
+
+  -- w is what is kept, as a slice
+  module _ {few : List Entry} (w : List Entry) (k : ℕ) (T : Trimmed g q es u v ps few) (e : w ≡ few) where
+    pub trimmed_more : {less : List Entry} → k < length few → less ≡ take k w ++ slice_end w k → Rejoins g q (take k w ++ slice_end w k) u v ps
+        → (k ≤ length less) × Trimmed g q es u v ps less
+    trimmed_more {less} h l R =
+        let z : take k w ++ slice_end w k ≡ take k few ++ drop (k + 1) few = rw (e, end_all few k) in
+        let S : Rejoins g q (take k few ++ drop (k + 1) few) u v ps = rw z at R in
+        let B = among_all (Contains es) (take k few ++ drop (k + 1) few) few (among_but few k) T.among in
+        rw (l, z) (
+          omega (arith, length-append (take k few) (drop (k + 1) few), length-take-le k few),
+          record {
+            less = omega (arith, T.less, length-append (take k few) (drop (k + 1) few), length-take-le k few, length-drop (k + 1) few);
+            among = B;
+            joins = λ s D J. S s D (among_all (ReasonHolds s) (take k few ++ drop (k + 1) few) es B (trace_stands s D J.traced));
+          },
+        )
+
+    -- and the entries on both sides of it are in range
+    pub parts_in_range : AllInRange g q es → AllInRange g q (take k w) × AllInRange g q (slice_end w k)
+    parts_in_range R =
+        let F = among_all (InRange g q) few es T.among R in
+        rw (e, end_all few k) (All-take (InRange g q) k few F, All-drop (InRange g q) (k + 1) few F)

@@ -1,149 +1,131 @@
-// The entries of a trace that a goal needs. An entry is an equation's place, or two nodes of one class and a place: see
-// `solve_trace`.
+// The entries of a trace that a goal needs.
 #![tactic(auto)]
 
-ghost use Rattle.std.specs.Prelude.{◌≡◌, true, ℕ, ◌-◌, ◌≤◌, ◌<◌, length, get_or};
-ghost use Rattle.graph.specs.Limits.{node_limit, child_limit, equation_limit};
-ghost use Rattle.solve_trace.specs.Packing.{place_base, place_of};
-ghost use Rattle.write_needed.specs.Entries.{end_at, AllInRange, Together};
-ghost use Rattle.write_needed.specs.Trim.{PairsTogether, Rejoins, Among, Trimmed};
+ghost use Rattle.std.specs.Prelude.{◌≡◌, true, ◌++◌, ◌+◌, ◌≤◌, ◌<◌, length, IfSome};
+ghost use Rattle.solve_classes.specs.Table.{Table};
+ghost use Rattle.write_needed.specs.Entries.{left_end, right_end, Placed, AllInRange, Together};
+ghost use Rattle.write_needed.specs.Trim.{NodePairs, PairsTogether, Extended, Rejoins, Trimmed};
 
-// A trace: its first `steps` entries.
-#[derive(Clone, Copy)]
-pub struct Needed {
-    pub trace: [u16; 64],
-    pub steps: usize,
-}
+use solve_trace::{Entry, Trace};
+use store::{Equations, Terms};
 
-// The node that an entry joins on one side: an equation's end, or the child of `node` at the entry's place.
-pub fn end_of<'a>(reason: u16, node: u16, ends: &'a [u8; 256], child: &'a [u8; 256]) -> u8
-    requires { (reason < place_base → reason < equation_limit) × ((place_of reason ≤ child_limit) × (node < node_limit)) }
-    ensures { result ≡ end_at ends.now child.now node reason }
+// The two nodes that an entry joins: an equation's ends, or the children of two nodes at the entry's place.
+pub fn ends_of(entry: Entry, t: &Terms, e: &Equations) -> (u8, u8)
+    requires { Placed entry }
+    ensures left { result.0 ≡ left_end t.now e.now entry }
+    ensures right { result.1 ≡ right_end t.now e.now entry }
 {
-    if solve_trace::is_equation(reason) {
-        return ends[reason as usize];
+    match entry {
+        Entry::Equation(k) => (e.left[k as usize], e.right[k as usize]),
+        Entry::Children { left, right, place } => (
+            t.child[4 * left as usize + place as usize],
+            t.child[4 * right as usize + place as usize],
+        ),
     }
-    let j = solve_trace::place_of(reason) - 1;
-    child[4 * node as usize + j as usize]
 }
 
 // The entry's nodes are of one class, where it has two.
-fn together(table: &[u8; 64], reason: u16) -> bool
-    ensures { result ≡ true → Together table.now reason }
+fn together(table: &[u8; 64], entry: Entry) -> bool
+    requires { Placed entry }
+    ensures { result ≡ true → Together table.now entry }
 {
-    if solve_trace::is_equation(reason) {
-        return true;
+    match entry {
+        Entry::Equation(_) => true,
+        Entry::Children { left, right, .. } => table[left as usize] == table[right as usize],
     }
-    table[solve_trace::first_of(reason) as usize] == table[solve_trace::second_of(reason) as usize]
 }
 
-// Each of the first `n` pairs is of one class.
-fn paired<'a>(table: [u8; 64], xs: &'a [u8; 64], ys: &'a [u8; 64], n: usize) -> bool
-    requires n_bound { n ≤ 64 }
-    requires by_index { (i : ℕ) → i < n → (get_or xs.now i 0 < 64) × (get_or ys.now i 0 < 64) }
-    ensures { result ≡ true → PairsTogether table xs.now ys.now n }
+// Each pair is of one class.
+fn paired(table: &[u8; 64], pairs: &[(u8, u8)]) -> bool
+    requires { NodePairs pairs.now }
+    ensures { result ≡ true → PairsTogether table.now pairs.now }
 {
-    let mut i: usize = 0;
-    while i < n {
-        if table[xs[i] as usize] != table[ys[i] as usize] {
-            return false;
-        }
-        i += 1;
-    }
-    true
+    pairs
+        .iter()
+        .all(|(x, y)| table[*x as usize] == table[*y as usize])
 }
 
-// The entries are a trace that joins u and v, and each pair.
-fn joins<'a>(
-    trace: &[u16; 64],
-    steps: usize,
-    left: &'a [u8; 256],
-    right: &'a [u8; 256],
-    child: &'a [u8; 256],
-    u: u8,
-    v: u8,
-    xs: &'a [u8; 64],
-    ys: &'a [u8; 64],
-    n: usize,
-) -> bool
-    requires trace_len { (length trace.now ≡ 64) × ((steps ≤ 64) × AllInRange trace.now steps left.now right.now child.now) }
-    requires u_bound { (u < 64) × ((v < 64) × (n ≤ 64)) }
-    requires by_index { (i : ℕ) → i < n → (get_or xs.now i 0 < 64) × (get_or ys.now i 0 < 64) }
-    ensures { result ≡ true → Rejoins left.now right.now child.now trace.now steps u v xs.now ys.now n }
+// The table that the entries make on from `table`, if each joins two of its classes.
+fn rebuild(mut table: [u8; 64], entries: &[Entry], t: &Terms, e: &Equations) -> Option<[u8; 64]>
+    requires table { Table table }
+    requires in_range { AllInRange t.now e.now entries.now }
+    ensures { IfSome result (λ r. Extended t.now e.now table entries.now r) }
 {
-    let mut table = solve_classes::fresh();
-    let mut k: usize = 0;
-    while k < steps {
-        let e = trace[k];
-        let a = end_of(e, solve_trace::first_of(e), left, child);
-        let b = end_of(e, solve_trace::second_of(e), right, child);
+    for entry in entries {
+        let (a, b) = ends_of(*entry, t, e);
         let ca = table[a as usize];
         let cb = table[b as usize];
-        if ca == cb {
-            return false;
-        }
-        if !together(&table, e) {
-            return false;
+        if ca == cb || !together(&table, *entry) {
+            return None;
         }
         let next = solve_classes::unite(table, ca, cb);
         table = next;
-        k += 1;
     }
-    if table[u as usize] != table[v as usize] {
-        return false;
-    }
-    paired(table, xs, ys, n)
+    Some(table)
 }
 
-// The first `steps` entries without entry `k`.
-fn without(trace: [u16; 64], steps: usize, k: usize) -> [u16; 64]
-    requires { steps ≤ 64 }
-    ensures { Among result (steps - 1) trace steps }
+// The entries of both are a trace that joins u and v, and each pair.
+fn joins(
+    before: &[Entry],
+    after: &[Entry],
+    t: &Terms,
+    e: &Equations,
+    u: u8,
+    v: u8,
+    pairs: &[(u8, u8)],
+) -> bool
+    requires in_range { AllInRange t.now e.now before.now × AllInRange t.now e.now after.now }
+    requires u_bound { (u < 64) × (v < 64) }
+    requires pairs { NodePairs pairs.now }
+    ensures { result ≡ true → Rejoins t.now e.now (before.now ++ after.now) u v pairs.now }
 {
-    let mut out = [0u16; 64];
-    let mut i: usize = 1;
-    while i < steps {
-        if i <= k {
-            out[i - 1] = trace[i - 1];
-        } else {
-            out[i - 1] = trace[i];
-        }
-        i += 1;
+    let Some(first) = rebuild(solve_classes::fresh(), before, t, e) else {
+        return false;
+    };
+    let Some(table) = rebuild(first, after, t, e) else {
+        return false;
+    };
+    table[u as usize] == table[v as usize] && paired(&table, pairs)
+}
+
+// The trace goes on by the entries.
+fn append(trace: &mut Trace, entries: &[Entry])
+    requires { length trace.old + length entries.now ≤ 64 }
+    ensures { trace.new ≡ trace.old ++ entries.now }
+{
+    for entry in entries {
+        trace.push(*entry);
     }
-    out
+}
+
+// The entries of both as one trace.
+fn both(before: &[Entry], after: &[Entry]) -> Trace
+    requires { length before.now + length after.now ≤ 64 }
+    ensures { result ≡ before.now ++ after.now }
+{
+    let mut trace = Trace::new();
+    append(&mut trace, before);
+    append(&mut trace, after);
+    trace
 }
 
 // Entries are dropped, the last first, while the rest still join u and v, and each pair.
-pub fn trim<'a>(
-    trace: [u16; 64],
-    steps: usize,
-    left: &'a [u8; 256],
-    right: &'a [u8; 256],
-    child: &'a [u8; 256],
-    u: u8,
-    v: u8,
-    xs: &'a [u8; 64],
-    ys: &'a [u8; 64],
-    n: usize,
-) -> Needed
-    requires steps_bound { (steps ≤ 64) × AllInRange trace steps left.now right.now child.now }
-    requires u_bound { (u < 64) × ((v < 64) × (n ≤ 64)) }
-    requires by_index { (i : ℕ) → i < n → (get_or xs.now i 0 < 64) × (get_or ys.now i 0 < 64) }
-    ensures { Trimmed left.now right.now child.now trace steps u v xs.now ys.now n result.trace result.steps }
+pub fn trim(trace: &Trace, t: &Terms, e: &Equations, u: u8, v: u8, pairs: &[(u8, u8)]) -> Trace
+    requires few { length trace.now ≤ 64 }
+    requires in_range { AllInRange t.now e.now trace.now }
+    requires u_bound { (u < 64) × (v < 64) }
+    requires pairs { NodePairs pairs.now }
+    ensures { Trimmed t.now e.now trace.now u v pairs.now result }
 {
-    let mut kept = trace;
-    let mut m = steps;
-    let mut k = steps;
-    while 0 < k {
-        k -= 1;
-        let less = without(kept, m, k);
-        if joins(&less, m - 1, left, right, child, u, v, xs, ys, n) {
+    let mut kept = both(trace.as_slice(), &[]);
+    for k in (0..trace.len()).rev() {
+        let entries = kept.as_slice();
+        let before = &entries[..k];
+        let after = &entries[k + 1..];
+        if joins(before, after, t, e, u, v, pairs) {
+            let less = both(before, after);
             kept = less;
-            m -= 1;
         }
     }
-    Needed {
-        trace: kept,
-        steps: m,
-    }
+    kept
 }

@@ -1,5 +1,5 @@
--- What each rule's line claims, and lists of lines with one more.
-use mathlib.Core.Path.{◌≡◌, refl, ◌∙◌}
+-- What each rule's line claims, and a pen's lines with one more.
+use mathlib.Core.Path.{◌≡◌, refl, sym, ◌∙◌}
 use mathlib.Core.List.{List, [], ◌∷◌, ◌++◌}
 use mathlib.Core.Option.{some}
 use Prim.Native.Nat.{ℕ, zero, suc, ◌+◌, ◌*◌, ◌≤◌, ◌<◌}
@@ -14,6 +14,8 @@ use Rattle.base.proofs.ListLaws.{found_append, found_last}
 use Rattle.base.proofs.TabLaws.{tab_none, tab_one_more, tab_same}
 use Rattle.proof_lines.specs.Codec.{line_at, first_lines, line, Put}
 use Rattle.proof_lines.specs.Proof.{Kept, Concludes}
+use Rattle.write_runs.specs.declared.Pen.{Pen}
+use Rattle.write_runs.specs.Pens.{Continues, NextLine}
 use Rattle.write_runs.specs.Written.{ClaimAt, LinesClaim, More}
 
 -- ---- what a line claims
@@ -84,40 +86,56 @@ lines_more {buf} {out} {n} {l} p =
     rw (tab_one_more n (line_at out), tab_same n (line_at out) (line_at buf) (λ k h. line_before buf out n k p.before h), p.at)
 
 module _ (s : State) where
-  pub written_none : (buf : List ℕ) → LinesClaim s buf 0 []
+  pub written_none : (p : Pen) → p.lines ≡ 0 → LinesClaim s p []
   unfolding first_lines
-  written_none buf = record { count = refl; passes = rw (tab_none (line_at buf)) }
+  written_none p e = record { count = sym e; passes = rw (e, tab_none (line_at p.buf.now)) }
 
-  -- a line whose claim is c is put at the end
-  pub written_more : {buf out : List ℕ} {n m : ℕ} {cs : List Claim} {l : Line} {c : Claim}
-      → m ≡ n + 1 → LinesClaim s buf n cs → Put buf n l out → claim_of s cs l ≡ some c → More s cs out m n c
-  written_more {buf} {out} {n} {m} {cs} {l} {c} e w p h =
+  -- the next line, whose claim is c
+  pub written_more : {p q : Pen} {cs : List Claim} {l : Line} {c : Claim} {r : ℕ}
+      → LinesClaim s p cs → NextLine p l q r → claim_of s cs l ≡ some c → More s cs q r c
+  written_more {p} {q} {cs} {l} {c} {r} w P h =
       record {
         claims = cs ++ (c ∷ []);
         written =
             record {
-              count = rw length-append (omega (arith, w.count, e));
-              passes = rw (e, lines_more p) (checked_claim s (first_lines n buf) cs l c w.passes h);
+              count = rw length-append (omega (arith, w.count, P.count));
+              passes = rw (P.count, lines_more P.line) (checked_claim s (first_lines p.lines p.buf.now) cs l c w.passes h);
             };
         older = λ i d g. found_append cs (c ∷ []) i d g;
-        last = found_last cs n c w.count;
+        last = rw P.number (found_last cs p.lines c w.count);
       }
 
   -- what is written after more is more
-  pub more_more : {cs : List Claim} {mid out : List ℕ} {n m k l : ℕ} {c d : Claim}
-      (w : More s cs mid n k c) → More s w.claims out m l d → More s cs out m l d
+  pub more_more : {cs : List Claim} {mid out : Pen} {k l : ℕ} {c d : Claim} (w : More s cs mid k c) → More s w.claims out l d → More s cs out l d
   more_more w v =
       record { claims = v.claims; written = v.written; older = λ i d g. v.older i d (w.older i d g); last = v.last }
 
   -- the last line's claim is what the lines conclude
-  pub concludes : (n : ℕ) {out : List ℕ} {m : ℕ} {cs : List Claim} {c : Claim} → m ≡ n + 1 → LinesClaim s out m cs → ClaimAt cs n c → Concludes s c m out
-  concludes n {out} {m} {cs} {c} e w h = rw w.passes (last_of_lem cs n c (omega (arith, w.count)) h)
+  pub concludes : (n : ℕ) {q : Pen} {cs : List Claim} {c : Claim} → q.lines ≡ n + 1 → LinesClaim s q cs → ClaimAt cs n c → Concludes s c q.lines q.buf.now
+  concludes n {q} {cs} {c} e w h = rw w.passes (last_of_lem cs n c (omega (arith, w.count, e)) h)
 
-pub kept_put : {buf out : List ℕ} {n m : ℕ} {l : Line} → m ≡ n + 1 → Put buf n l out → Kept m buf out
-kept_put e p = record { size = p.size; past = λ i h. p.past i (omega arith) }
+-- ---- a pen goes on
 
 pub kept_kept : {buf mid out : List ℕ} {n m : ℕ} → n ≤ m → Kept n buf mid → Kept m mid out → Kept m buf out
 kept_kept h k l = record { size = l.size ∙ k.size; past = λ i g. l.past i g ∙ k.past i (omega arith) }
 
-pub kept_none : {buf : List ℕ} (n : ℕ) → Kept n buf buf
-kept_none n = record { size = refl; past = λ i h. refl }
+pub goes_none : (p : Pen) → Continues p p
+goes_none p = record { same_reference = refl; nodes = refl; low = omega arith; kept = record { size = refl; past = λ i h. refl } }
+
+pub goes_line : {p q : Pen} {l : Line} {r : ℕ} → NextLine p l q r → Continues p q
+goes_line P =
+    record {
+      same_reference = P.same_reference;
+      nodes = P.nodes;
+      low = omega (arith, P.count);
+      kept = record { size = P.line.size; past = λ i h. P.line.past i (omega (arith, P.count)) };
+    }
+
+pub goes_on : {p q r : Pen} → Continues p q → Continues q r → Continues p r
+goes_on C D =
+    record {
+      same_reference = D.same_reference ∙ C.same_reference;
+      nodes = D.nodes ∙ C.nodes;
+      low = omega (arith, C.low, D.low);
+      kept = kept_kept D.low C.kept D.kept;
+    }

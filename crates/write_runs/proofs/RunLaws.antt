@@ -1,5 +1,5 @@
 -- What each run of lines adds.
-use mathlib.Core.Path.{◌≡◌, refl, ◌∙◌}
+use mathlib.Core.Path.{◌≡◌, refl, ap, ◌∙◌}
 use mathlib.Core.Bool.{cond}
 use mathlib.Core.List.{List, []}
 use Prim.Native.Nat.{ℕ, ◌+◌, ◌≤◌, ◌<◌}
@@ -11,108 +11,137 @@ use borrow.Author.Count.{below_more}
 use borrow.Author.Tests.{eq-eqb, ne_eqb, le-leb, lt-leb}
 use Rattle.graph.specs.State.{State, IsNode}
 use Rattle.graph.specs.Lines.{Line, Claim, same}
-use Rattle.solve_classes.specs.Table.{class, member_at}
+use Rattle.solve_classes.specs.Table.{class, member_at, merged_class}
 use Rattle.base.proofs.SumLaws.{sum_none, sum_more}
-use Rattle.proof_lines.specs.Codec.{line, Put}
+use Rattle.proof_lines.specs.Codec.{line}
 use Rattle.proof_lines.specs.Proof.{Kept}
-use Rattle.write_runs.specs.Written.{ClaimAt}
-use Rattle.write_runs.specs.Runs.{Pen, Linked, Bridged, BridgedBack, Started, Absorbed, Rewired}
+use Rattle.write_runs.specs.declared.Pen.{Pen}
+use Rattle.write_runs.specs.Pens.{NextLine, Continues}
+use Rattle.write_runs.specs.Written.{ClaimAt, LinesClaim, More}
+use Rattle.write_runs.specs.Runs.{LineForEach, Rooted, Linked, Bridged, BridgedBack, Started, Absorbed, Rewired}
 use Rattle.write_runs.proofs.SizeLaws.{class_size}
-use Rattle.write_runs.proofs.Claims.{claim_reflexivity, claim_symmetry, claim_transitivity, written_none, written_more, more_more, kept_put, kept_kept, kept_none}
+use Rattle.write_runs.proofs.Claims.{claim_reflexivity, claim_symmetry, claim_transitivity, written_none, written_more, more_more, kept_kept, goes_none, goes_line, goes_on}
 
-pub link : {buf mid out : List ℕ} {n i j x y z : ℕ} → Put buf n (line 4 0 z 0) mid → Put mid x (line 5 0 i y) out → z ≡ j → x ≡ n + 1 → y ≡ n → Linked buf n i j out
-link {buf} {mid} {out} {n} {i} {j} {x} {y} {z} O R ez ex ey =
-    let P : Put buf n (line 4 0 j 0) mid = (rw ez at O) in
-    let Q : Put mid (n + 1) (line 5 0 i n) out = (rw (ex, ey) at R) in
+-- what a constructor of lines gives, and that it is put
+module _ {p : Pen} {l : Line} {q : Pen} {r : ℕ} where
+  pub next_line : {m : Line} → l ≡ m → NextLine p l q r → NextLine p m q r
+  next_line e P = rw e at P
+
+pub linked : {p u q : Pen} {i j y r : ℕ} {k m : Line} → k ≡ line 4 0 j 0 → m ≡ line 5 0 i y → NextLine p k u y → NextLine u m q r → Linked p i j q r
+linked {i = i} {j} {y} ek em K M =
+    let P = next_line ek K in
+    let Q = next_line em M in
     record {
-      kept = kept_kept {n = n + 1} (omega arith) (kept_put refl P) (kept_put (omega arith) Q);
-      more = λ s cs p q x w hi hj.
-          let u = written_more s {m = n + 1} refl w P (claim_symmetry s cs j q x hj) in
-          more_more s u (written_more s (omega arith) u.written Q (claim_transitivity s u.claims i n p x q (u.older i _ hi) u.last));
+      continues = goes_on (goes_line P) (goes_line Q);
+      to = Q.to ∙ P.to;
+      count = omega (arith, P.count, Q.count);
+      last = omega (arith, Q.number, Q.count);
+      more = λ s cs a b x w hi hj.
+          let u = written_more s w P (claim_symmetry s cs j b x hj) in
+          more_more s u (written_more s u.written Q (claim_transitivity s u.claims i y a x b (u.older i _ hi) u.last));
     }
 
-kept_three : {buf one two out : List ℕ} {n : ℕ} {k l m : Line} → Put buf n k one → Put one (n + 1) l two → Put two (n + 2) m out → Kept (n + 3) buf out
-kept_three {n = n} P Q R =
-    kept_kept {n = n + 2} (omega arith) (kept_kept {n = n + 1} (omega arith) (kept_put refl P) (kept_put (omega arith) Q)) (kept_put (omega arith) R)
-
-pub bridge : {buf one two out : List ℕ} {n r i j : ℕ}
-    → Put buf n (line 5 0 r j) one → Put one (n + 1) (line 4 0 i 0) two → Put two (n + 2) (line 5 0 (n + 1) n) out → Bridged buf n r i j out
-bridge {n = n} {r} {i} {j} P Q R =
+pub bridged : {p u v q : Pen} {l i j y z r : ℕ} {k m n : Line} → k ≡ line 5 0 l j → m ≡ line 4 0 i 0 → n ≡ line 5 0 z y
+    → NextLine p k u y → NextLine u m v z → NextLine v n q r → Bridged p l i j q r
+bridged {l = l} {i} {j} {y} {z} ek em en K M N =
+    let P = next_line ek K in
+    let Q = next_line em M in
+    let R = next_line en N in
     record {
-      kept = kept_three P Q R;
-      more = λ s cs a b x y w hr hi hj.
-          let u = written_more s {m = n + 1} refl w P (claim_transitivity s cs r j a b y hr hj) in
-          let v = written_more s {m = n + 2} (omega arith) u.written Q (claim_symmetry s u.claims i a x (u.older i _ hi)) in
-          more_more s u (more_more s v
-          (written_more s (omega arith) v.written R (claim_transitivity s v.claims (n + 1) n x a y v.last (v.older n _ u.last))));
+      continues = goes_on (goes_line P) (goes_on (goes_line Q) (goes_line R));
+      to = R.to ∙ (Q.to ∙ P.to);
+      count = omega (arith, P.count, Q.count, R.count);
+      last = omega (arith, R.number, R.count);
+      more = λ s cs a b x k w hr hi hj.
+          let u = written_more s w P (claim_transitivity s cs l j a b k hr hj) in
+          let v = written_more s u.written Q (claim_symmetry s u.claims i a x (u.older i _ hi)) in
+          more_more s u (more_more s v (written_more s v.written R (claim_transitivity s v.claims z y x a k v.last (v.older y _ u.last))));
     }
 
-pub bridge_back : {buf one two out : List ℕ} {n r i j : ℕ}
-    → Put buf n (line 5 0 r j) one → Put one (n + 1) (line 4 0 n 0) two → Put two (n + 2) (line 5 0 (n + 1) i) out → BridgedBack buf n r i j out
-bridge_back {n = n} {r} {i} {j} P Q R =
+pub bridged_back : {p u v q : Pen} {l i j y z r : ℕ} {k m n : Line} → k ≡ line 5 0 l j → m ≡ line 4 0 y 0 → n ≡ line 5 0 z i
+    → NextLine p k u y → NextLine u m v z → NextLine v n q r → BridgedBack p l i j q r
+bridged_back {l = l} {i} {j} {y} {z} ek em en K M N =
+    let P = next_line ek K in
+    let Q = next_line em M in
+    let R = next_line en N in
     record {
-      kept = kept_three P Q R;
-      more = λ s cs a b x y w hr hi hj.
-          let u = written_more s {m = n + 1} refl w P (claim_transitivity s cs r j a b y hr hj) in
-          let v = written_more s {m = n + 2} (omega arith) u.written Q (claim_symmetry s u.claims n a y u.last) in
-          more_more s u (more_more s v
-          (written_more s (omega arith) v.written R (claim_transitivity s v.claims (n + 1) i y a x v.last (v.older i _ (u.older i _ hi)))));
+      continues = goes_on (goes_line P) (goes_on (goes_line Q) (goes_line R));
+      to = R.to ∙ (Q.to ∙ P.to);
+      count = omega (arith, P.count, Q.count, R.count);
+      last = omega (arith, R.number, R.count);
+      more = λ s cs a b x k w hr hi hj.
+          let u = written_more s w P (claim_transitivity s cs l j a b k hr hj) in
+          let v = written_more s u.written Q (claim_symmetry s u.claims y a k u.last) in
+          more_more s u (more_more s v (written_more s v.written R (claim_transitivity s v.claims z i k a x v.last (v.older i _ (u.older i _ hi)))));
     }
 
 -- ---- a line for each node
 
-pub started_none : {buf to : List ℕ} → length to ≡ 64 → Started buf 0 buf to
-started_none {buf} e =
-    record { kept = kept_none 0; size = e; more = λ s h. ([], (written_none s buf, λ i l. absurd (omega arith))) }
-
-pub started_more : {buf out new to : List ℕ} {x : ℕ} → x < 64 → Started buf x out to → Put out x (line 3 0 x 0) new → Started buf (x + 1) new (set to x x)
-started_more {buf} {out} {new} {to} {x} hx S P =
+pub started_none : {q : Pen} → q.lines ≡ 0 → length q.to ≡ 64 → Started q.buf.now q.nodes 0 q
+started_none {q} z e =
     record {
-      kept = kept_kept {n = x} (omega arith) S.kept (kept_put refl P);
-      size = length-set to x x ∙ S.size;
+      nodes = refl;
+      count = z;
+      kept = record { size = refl; past = λ i h. refl };
+      size = e;
+      more = λ s h. ([], (written_none s q z, λ i l. absurd (omega arith)));
+    }
+
+-- q with line l for node x
+abbrev pub renumbered : Pen → ℕ → ℕ → Pen
+renumbered q x l = record q { to = set q.to x l }
+
+pub started_more : {buf : List ℕ} {n x y : ℕ} {p q : Pen} {l : Line} → x < 64 → l ≡ line 3 0 x 0 → Started buf n x p → NextLine p l q y
+    → Started buf n (x + 1) (renumbered q x y)
+started_more {x = x} {y} {p} {q} hx e S P =
+    let Q = next_line e P in
+    let at : (i : ℕ) → get_or q.to i 0 ≡ get_or p.to i 0 = λ i. ap (λ v. get_or v i 0) P.to in
+    let size : length q.to ≡ 64 = ap (λ v. length v) P.to ∙ S.size in
+    let more : q.lines ≡ x + 1 = omega (arith, P.count, S.count) in
+    let kept : Kept (x + 1) p.buf.now q.buf.now = rw more at (goes_line P).kept in
+    record {
+      nodes = P.nodes ∙ S.nodes;
+      count = more;
+      kept = kept_kept {n = x} (omega arith) S.kept kept;
+      size = length-set q.to x y ∙ size;
       more = λ s h.
           let w = S.more s (omega arith) in
-          let u = written_more s {m = x + 1} refl w.1.0 P (claim_reflexivity s w.0 x (omega arith)) in (
+          let u = written_more s w.1.0 Q (claim_reflexivity s w.0 x (omega arith)) in (
             u.claims,
             (
-              u.written,
-              below_more (λ i. ClaimAt u.claims (get_or (set to x x) i 0) (same i i)) x
-                  (λ i l. rw (get_or-set_other to x i x 0 (λ q. omega (arith, q))) (u.older _ _ (w.1.1 i l)))
-                  (rw (get_or-set_same to x x 0 (omega (arith, S.size))) u.last),
+              record { count = u.written.count; passes = u.written.passes },
+              below_more (λ i. ClaimAt u.claims (get_or (set q.to x y) i 0) (same i i)) x
+                  (λ i l. rw (get_or-set_other q.to x i y 0 (λ q. omega (arith, q)), at i) (u.older _ _ (w.1.1 i l)))
+                  (rw (get_or-set_same q.to x y 0 (omega (arith, size))) u.last),
             ),
           );
     }
 
-pub started_all : {buf out to : List ℕ} {x nodes : ℕ} → x ≡ nodes → Started buf x out to → Started buf nodes out to
-started_all e S = rw e at S
-
-pub started_pen : {buf out to : List ℕ} {nodes : ℕ} → Started buf nodes out to → (s : State) → length s.nodes ≡ nodes → Pen s (λ x. x) to out nodes
-started_pen S s e =
+pub started_rooted : {buf : List ℕ} {n : ℕ} {q : Pen} → Started buf n n q → (s : State) → length s.nodes ≡ n → Rooted s (λ x. x) q
+started_rooted S s e =
     let w = S.more s (omega arith) in
     record { claims = w.0; written = w.1.0; number = λ x h. w.1.1 x (omega arith) }
 
 -- ---- a line for each node of a class that goes
 
-module _ {buf from : List ℕ} {n nodes : ℕ} {t : List ℕ} {keep gone l : ℕ} where
-  pub absorbed_none : length from ≡ 64 → Absorbed buf from n nodes t keep gone l 0 buf from n
+module _ {p : Pen} {t : List ℕ} {keep gone l : ℕ} where
+  pub absorbed_none : length p.to ≡ 64 → Absorbed p t keep gone l 0 p
   absorbed_none e =
       record {
-        low = omega arith;
+        continues = goes_none p;
         high = omega arith;
         tight = omega (arith, sum_none (member_at t gone));
-        kept = kept_none n;
         size = e;
         more = λ s cs h w N L. record { claims = cs; written = w; bridge = L; done = λ i k. absurd (omega arith); rest = λ i k. N i };
       }
 
-  module _ {x : ℕ} {out to : List ℕ} {m : ℕ} (A : Absorbed buf from n nodes t keep gone l x out to m) where
-    pub absorbed_skip : (class t x ≡ gone → ⊥) → Absorbed buf from n nodes t keep gone l (x + 1) out to m
+  module _ {x : ℕ} {q : Pen} (A : Absorbed p t keep gone l x q) where
+    pub absorbed_skip : (class t x ≡ gone → ⊥) → Absorbed p t keep gone l (x + 1) q
     absorbed_skip d =
         record {
-          low = A.low;
+          continues = A.continues;
           high = omega (arith, A.high);
           tight = omega (arith, A.tight, sum_more (member_at t gone) x);
-          kept = A.kept;
           size = A.size;
           more = λ s cs h w N L.
               let B = A.more s cs h w N L in
@@ -121,72 +150,76 @@ module _ {buf from : List ℕ} {n nodes : ℕ} {t : List ℕ} {keep gone l : ℕ
                 written = B.written;
                 bridge = B.bridge;
                 done =
-                    below_more (λ i. IsNode s i → ClaimAt B.claims (get_or to i 0) (same i (cond (eqb (class t i) gone) keep (class t i)))) x
+                    below_more (λ i. IsNode s i → ClaimAt B.claims (get_or q.to i 0) (same i (cond (eqb (class t i) gone) keep (class t i)))) x
                     B.done (λ k. rw (ne_eqb (class t x) gone d) (B.rest x (omega arith) k));
                 rest = λ i k. B.rest i (omega arith);
               };
         }
 
-    pub absorbed_take : {new : List ℕ} {y : ℕ} → x < nodes → nodes ≤ 64 → class t x ≡ gone → Put out m (line 5 0 (get_or to x 0) l) new → y ≡ m
-        → Absorbed buf from n nodes t keep gone l (x + 1) new (set to x y) (m + 1)
-    absorbed_take {new} hx hn e P f =
-        rw f
-        (record {
-          low = omega (arith, A.low);
-          high = omega (arith, A.high);
-          tight = (let one : member_at t gone x ≡ 1 = (rw (eq-eqb (class t x) gone e)) in omega (arith, A.tight, sum_more (member_at t gone) x));
-          kept = kept_kept {n = m} (omega arith) A.kept (kept_put refl P);
-          size = length-set to x m ∙ A.size;
+    pub absorbed_take : {r : Pen} {y : ℕ} {k : Line} → x < p.nodes → p.nodes ≤ 64 → class t x ≡ gone → k ≡ line 5 0 (get_or q.to x 0) l → NextLine q k r y
+        → Absorbed p t keep gone l (x + 1) (renumbered r x y)
+    absorbed_take {r} {y} hx hn e ek K =
+        let P = next_line ek K in
+        let at : (i : ℕ) → get_or r.to i 0 ≡ get_or q.to i 0 = λ i. ap (λ v. get_or v i 0) P.to in
+        let size : length r.to ≡ 64 = ap (λ v. length v) P.to ∙ A.size in
+        record {
+          continues =
+              let C = goes_on A.continues (goes_line P) in
+              record { same_reference = C.same_reference; nodes = C.nodes; low = C.low; kept = C.kept };
+          high = omega (arith, A.high, P.count);
+          tight = (let one : member_at t gone x ≡ 1 = (rw (eq-eqb (class t x) gone e)) in omega (arith, A.tight, P.count, sum_more (member_at t gone) x));
+          size = length-set r.to x y ∙ size;
           more = λ s cs h w N L.
               let B = A.more s cs h w N L in
-              let old : ClaimAt B.claims (get_or to x 0) (same x gone) = rw e at (B.rest x (omega arith) (omega arith)) in
-              let u = written_more s {m = m + 1} refl B.written P (claim_transitivity s B.claims (get_or to x 0) l x gone keep old B.bridge) in
-              let other : (i : ℕ) (c : Claim) → (i ≡ x → ⊥) → ClaimAt B.claims (get_or to i 0) c → ClaimAt u.claims (get_or (set to x m) i 0) c =
-              λ i c q g. (rw (get_or-set_other to x i m 0 q) (u.older _ _ g)) in
+              let old : ClaimAt B.claims (get_or q.to x 0) (same x gone) = rw e at (B.rest x (omega arith) (omega arith)) in
+              let u = written_more s B.written P (claim_transitivity s B.claims (get_or q.to x 0) l x gone keep old B.bridge) in
+              let other : (i : ℕ) (c : Claim) → (i ≡ x → ⊥) → ClaimAt B.claims (get_or q.to i 0) c → ClaimAt u.claims (get_or (set r.to x y) i 0) c =
+              λ i c k g. (rw (get_or-set_other r.to x i y 0 k, at i) (u.older _ _ g)) in
               record {
                 claims = u.claims;
-                written = u.written;
+                written = record { count = u.written.count; passes = u.written.passes };
                 bridge = u.older _ _ B.bridge;
                 done =
-                    below_more (λ i. IsNode s i → ClaimAt u.claims (get_or (set to x m) i 0) (same i (cond (eqb (class t i) gone) keep (class t i)))) x
+                    below_more (λ i. IsNode s i → ClaimAt u.claims (get_or (set r.to x y) i 0) (same i (cond (eqb (class t i) gone) keep (class t i)))) x
                     (λ i k g. other i _ (λ q. omega (arith, q)) (B.done i k g))
-                    (λ k. rw (eq-eqb (class t x) gone e, get_or-set_same to x m 0 (omega (arith, A.size))) u.last);
+                    (λ k. rw (eq-eqb (class t x) gone e, get_or-set_same r.to x y 0 (omega (arith, size))) u.last);
                 rest = λ i k g. other i _ (λ q. omega (arith, q)) (B.rest i (omega arith) g);
               };
-        })
-
-    pub absorbed_all : {y : ℕ} → x ≡ y → Absorbed buf from n nodes t keep gone l y out to m
-    absorbed_all e = rw e at A
+        }
 
 -- ---- two classes made one
 
-module _ {buf mid out from to : List ℕ} {n nodes : ℕ} {t : List ℕ} {l a b m : ℕ} (hn : nodes ≤ 64) where
-  pub rewired_up : class t a ≤ class t b → BridgedBack buf n l (get_or from a 0) (get_or from b 0) mid
-      → Absorbed mid from (n + 3) nodes t (class t a) (class t b) (n + 2) nodes out to m → Rewired buf from n nodes t l a b out to m
-  rewired_up h B A =
-      record {
-        low = omega (arith, A.low);
-        high = omega (arith, A.high);
-        tight = omega (arith, A.tight, class_size t (class t b) nodes hn);
-        kept = kept_kept {n = n + 3} A.low B.kept A.kept;
-        size = A.size;
-        more = λ s cs e ha hb w N L.
-            let u = B.more s cs a b (class t a) (class t b) w L (N a ha) (N b hb) in
-            let C = A.more s u.claims e u.written (λ x k. u.older _ _ (N x k)) u.last in
-            record { claims = C.claims; written = C.written; number = λ x k. rw (le-leb (class t a) (class t b) h) (C.done x (omega arith) k) };
-      }
+-- by the last line of three, gone same keep, where these are the classes of a and b
+rewired : {p u q : Pen} {t : List ℕ} {l a b r : ℕ} (keep gone : ℕ) → p.nodes ≤ 64 → Continues p u → u.to ≡ p.to → u.lines ≡ p.lines + 3
+    → ((s : State) (cs : List Claim) → IsNode s a → IsNode s b → LinesClaim s p cs → LineForEach s cs (class t) p.to → ClaimAt cs l (same a b)
+    → More s cs u r (same gone keep))
+    → ((x : ℕ) → cond (eqb (class t x) gone) keep (class t x) ≡ merged_class (class t) a b x)
+    → Absorbed u t keep gone r u.nodes q → Rewired p t l a b q
+rewired {p} {u} {q} {t} {r = r} keep gone hn C to count more merged A =
+    record {
+      continues = goes_on C A.continues;
+      high = omega (arith, A.high, count, C.nodes);
+      tight = omega (arith, A.tight, class_size t gone u.nodes (omega (arith, C.nodes)), count);
+      size = A.size;
+      more = λ s cs e ha hb w N L.
+          let v = more s cs ha hb w N L in
+          let D = A.more s v.claims (omega (arith, e, C.nodes)) v.written (λ x k. rw to (v.older _ _ (N x k))) v.last in
+          record {
+            claims = D.claims;
+            written = D.written;
+            number = λ x k. (rw (merged x) at (D.done x (omega (arith, C.nodes)) k));
+          };
+    }
 
-  pub rewired_down : class t b < class t a → Bridged buf n l (get_or from a 0) (get_or from b 0) mid
-      → Absorbed mid from (n + 3) nodes t (class t b) (class t a) (n + 2) nodes out to m → Rewired buf from n nodes t l a b out to m
-  rewired_down h B A =
-      record {
-        low = omega (arith, A.low);
-        high = omega (arith, A.high);
-        tight = omega (arith, A.tight, class_size t (class t a) nodes hn);
-        kept = kept_kept {n = n + 3} A.low B.kept A.kept;
-        size = A.size;
-        more = λ s cs e ha hb w N L.
-            let u = B.more s cs a b (class t a) (class t b) w L (N a ha) (N b hb) in
-            let C = A.more s u.claims e u.written (λ x k. u.older _ _ (N x k)) u.last in
-            record { claims = C.claims; written = C.written; number = λ x k. rw (lt-leb (class t a) (class t b) h) (C.done x (omega arith) k) };
-      }
+module _ {p u q : Pen} {t : List ℕ} {l a b r : ℕ} (hn : p.nodes ≤ 64) where
+  pub rewired_up : class t a ≤ class t b → BridgedBack p l (get_or p.to a 0) (get_or p.to b 0) u r
+      → Absorbed u t (class t a) (class t b) r u.nodes q → Rewired p t l a b q
+  rewired_up h B =
+      rewired (class t a) (class t b) hn B.continues B.to B.count
+      (λ s cs ha hb w N L. B.more s cs a b (class t a) (class t b) w L (N a ha) (N b hb)) (λ x. rw (le-leb (class t a) (class t b) h))
+
+  pub rewired_down : class t b < class t a → Bridged p l (get_or p.to a 0) (get_or p.to b 0) u r
+      → Absorbed u t (class t b) (class t a) r u.nodes q → Rewired p t l a b q
+  rewired_down h B =
+      rewired (class t b) (class t a) hn B.continues B.to B.count
+      (λ s cs ha hb w N L. B.more s cs a b (class t a) (class t b) w L (N a ha) (N b hb)) (λ x. rw (lt-leb (class t a) (class t b) h))

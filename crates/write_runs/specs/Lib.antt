@@ -1,3 +1,4 @@
--- Claims on paper, and what each run of lines adds.
+-- A pen, claims on paper, and what each run of lines adds.
+pub mod Pens
 pub mod Written
 pub mod Runs

@@ -4,8 +4,7 @@ use mathlib.Core.List.{List}
 use mathlib.Core.Option.{some}
 use Prim.Native.Nat.{ℕ, zero, suc, ◌≤◌, ◌<◌}
 use native.Mathlib.Omega.{arith}
-use lib.ListN.{length, get_elem?, get_or, take}
-use lib.Seq.{length-take-le}
+use lib.ListN.{length, get_elem?, get_or}
 use borrow.Author.Tests.{eq-eqb, ne_eqb}
 use Rattle.graph.specs.State.{functor, Equation, NodeAt, ChildAt}
 use Rattle.graph.specs.Lines.{same, named, by_equation}
@@ -14,6 +13,7 @@ use Rattle.store.specs.declared.Terms.{Terms}
 use Rattle.store.specs.declared.Equations.{Equations}
 use Rattle.store.specs.Views.{arity_at, child_at, equation_at, equations_of, state_from}
 use Rattle.store.specs.Shape.{Shape, EquationsShape}
+use Rattle.solve_trace.specs.declared.Entry.{Entry}
 use Rattle.solve_trace.specs.Trace.{Traced}
 use Rattle.solve_trace.proofs.TraceLaws.{traced_most}
 use Rattle.store.proofs.ViewLaws.{nodes_length, equations_length, functor_known, child_known, equation_known, shape_proper}
@@ -57,7 +57,7 @@ module _ (g : Terms) (q : Equations) (S : Shape g q) where
       let d : (i < arity_at g p) × (child_at g p i ≡ v) = child_known g p i v (rw k.3 c) in
       (omega (arith, d.0, S.terms.arities p (omega (arith, k.0, S.terms.few))), d.1)
 
-  pub shape_describes : Describes g.count q.name q.left q.right g.child (state_from g q)
+  pub shape_describes : Describes g q (state_from g q)
   shape_describes =
       record {
         names =
@@ -81,9 +81,9 @@ module _ (g : Terms) (q : Equations) (S : Shape g q) where
 
   -- ---- what the entries of a trace say of the arrays, and how many there are
 
-  module _ (trace : List ℕ) (n : ℕ) (h : n ≤ length trace) where
-    pub shape_range : (t : List ℕ) → Traced (state_from g q) (take n trace) t → AllInRange trace n q.left q.right g.child
-    shape_range t T = trace_in_range (state_from g q) shape_describes.ends trace n t h T
+  module _ {es : List Entry} {t : List ℕ} (T : Traced (state_from g q) es t) where
+    pub shape_range : AllInRange g q es
+    shape_range = trace_in_range (state_from g q) shape_describes.ends T
 
-    pub shape_steps : (t : List ℕ) → Traced (state_from g q) (take n trace) t → n ≤ 63
-    shape_steps t T = omega (arith, length-take-le n trace h, traced_most (state_from g q) limited.proper limited.fits T)
+    pub shape_steps : length es ≤ 63
+    shape_steps = traced_most (state_from g q) limited.proper limited.fits T

@@ -1,133 +1,96 @@
-// A trace of merges replayed as proof lines, and the lines for two nodes of one class. For each node, `to` has the number of
-// a line that claims the node same its root. An entry is an equation's place, or two nodes of one class and a place:
-// see `solve_trace`.
+// A trace of merges replayed as proof lines, and the lines for two nodes of one class.
 #![tactic(auto)]
 
-ghost use Rattle.std.specs.Prelude.{◌≡◌, ℕ, ◌+◌, ◌*◌, ◌≤◌, ◌<◌, length, get_or};
-ghost use Rattle.graph.specs.Limits.{node_limit, equation_limit, line_limit, buffer_bytes};
-ghost use Rattle.solve_trace.specs.Packing.{place_base};
-ghost use Rattle.write_needed.specs.Entries.{AllInRange};
-ghost use Rattle.write_same.specs.Replay.{EntryReplayed, Retraced, Prepared, Explained};
+ghost use Rattle.std.specs.Prelude.{◌≡◌, ◌≤◌, ◌<◌, length};
+ghost use Rattle.graph.specs.Limits.{node_limit, buffer_bytes};
+ghost use Rattle.write_runs.specs.Pens.{Takes};
+ghost use Rattle.write_needed.specs.Entries.{Placed, AllInRange};
+ghost use Rattle.write_needed.specs.Trim.{NodePairs};
+ghost use Rattle.write_same.specs.Replay.{ReasonWritten, EntryReplayed, Retraced, Prepared, Explained};
+
+use proof_lines::Fields;
+use solve_trace::{Entry, Trace};
+use store::{Equations, Terms};
+use write_runs::Pen;
+
+// The lines of an entry's reason, a same b: the equation, or a step down from two nodes of one class.
+fn write_reason(pen: &mut Pen, entry: Entry, e: &Equations) -> u16
+    requires room { Takes pen.old 3 }
+    requires placed { Placed entry }
+    ensures { ReasonWritten e.now pen.old entry pen.new result }
+{
+    match entry {
+        Entry::Equation(k) => pen.put(Fields::equation(e.name[k as usize])),
+        Entry::Children { left, right, place } => {
+            let i = pen.to[left as usize];
+            let j = pen.to[right as usize];
+            let parents = pen.link(i, j);
+            pen.put(Fields::down(parents, place + 1))
+        }
+    }
+}
 
 // One entry: the line of its reason, a same b, and the two classes made one.
-fn step(
-    buf: &mut [u8],
-    n: usize,
-    nodes: usize,
-    table: [u8; 64],
-    reason: u16,
-    a: u8,
-    b: u8,
-    name: &[u16; 256],
-    to: &mut [u16; 64],
-) -> usize
-    requires nodes_le_node_limit { (nodes ≤ node_limit) × ((n + 70 ≤ line_limit) × (buffer_bytes ≤ length buf.old)) }
-    requires to_len { (length to.old ≡ 64) × ((a < 64) × (b < 64)) }
-    requires reason_lt_equation_limit { reason < place_base → reason < equation_limit }
-    ensures { EntryReplayed name.now buf.old to.old n nodes table reason a b buf.new to.new result }
+fn step(pen: &mut Pen, table: [u8; 64], entry: Entry, e: &Equations, a: u8, b: u8)
+    requires room { Takes pen.old 70 }
+    requires nodes_le_node_limit { pen.old.nodes ≤ node_limit }
+    requires placed { Placed entry }
+    requires a_bound { (a < 64) × (b < 64) }
+    ensures { EntryReplayed e.now pen.old table entry a b pen.new }
 {
-    if solve_trace::is_equation(reason) {
-        proof_lines::put_line(buf, n, 1, 0, name[reason as usize], 0);
-        return write_runs::rewire(buf, n + 1, nodes, table, n as u16, a, b, to);
-    }
-    let i = to[solve_trace::first_of(reason) as usize];
-    let j = to[solve_trace::second_of(reason) as usize];
-    let place = solve_trace::place_of(reason) as u8;
-    write_runs::link(buf, n, i, j);
-    proof_lines::put_line(buf, n + 2, 6, place, n as u16 + 1, 0);
-    write_runs::rewire(buf, n + 3, nodes, table, n as u16 + 2, a, b, to)
+    let reason = write_reason(pen, entry, e);
+    pen.rewire(table, reason, a, b);
 }
 
-// The first `steps` entries, from a line for each node on. Gives the number of lines.
-pub fn replay<'a>(
-    buf: &mut [u8],
-    n: usize,
-    nodes: usize,
-    trace: &[u16; 64],
-    steps: usize,
-    name: &[u16; 256],
-    left: &'a [u8; 256],
-    right: &'a [u8; 256],
-    child: &'a [u8; 256],
-    to: &mut [u16; 64],
-) -> usize
-    requires n_bound { (n ≤ 64) × ((nodes ≤ node_limit) × ((steps ≤ 63) × (buffer_bytes ≤ length buf.old))) }
-    requires to_len { length to.old ≡ 64 }
-    requires trace_len { (length trace.now ≡ 64) × AllInRange trace.now steps left.now right.now child.now }
-    ensures { Retraced nodes name.now left.now right.now child.now trace.now buf.old to.old n steps buf.new to.new result }
+// The lines of the entries, from a line for each node on.
+pub fn replay(pen: &mut Pen, t: &Terms, e: &Equations, trace: &Trace)
+    requires start { (pen.old.lines ≤ 64) × (pen.old.nodes ≤ node_limit) × (pen.old.nodes ≡ t.now.count) }
+    requires room { (length trace.now ≤ 63) × (buffer_bytes ≤ length pen.old.buf.now) }
+    requires in_range { AllInRange t.now e.now trace.now }
+    ensures { Retraced t.now e.now trace.now pen.old pen.new }
 {
     let mut table = solve_classes::fresh();
-    let mut m = n;
-    let mut k: usize = 0;
-    while k < steps {
-        let e = trace[k];
-        let a = write_needed::end_of(e, solve_trace::first_of(e), left, child);
-        let b = write_needed::end_of(e, solve_trace::second_of(e), right, child);
-        let more = step(buf, m, nodes, table, e, a, b, name, to);
-        m = more;
-        let ca = table[a as usize];
-        let cb = table[b as usize];
-        let next = solve_classes::unite(table, ca, cb);
+    for entry in trace.as_slice() {
+        let (a, b) = write_needed::ends_of(*entry, t, e);
+        step(pen, table, *entry, e, a, b);
+        let next = solve_classes::merge(table, a, b);
         table = next;
-        k += 1;
     }
-    m
 }
 
-// The lines of the entries that are needed to join u and v, and each of the first `n` pairs. Gives the number of lines.
+// The lines of the entries that are needed to join u and v, and each pair.
 pub fn prepare<'a>(
-    buf: &mut [u8],
-    nodes: usize,
-    trace: &[u16; 64],
-    steps: usize,
-    name: &[u16; 256],
-    left: &'a [u8; 256],
-    right: &'a [u8; 256],
-    child: &'a [u8; 256],
+    buf: &'a mut [u8],
+    t: &Terms,
+    e: &Equations,
+    trace: &Trace,
     u: u8,
     v: u8,
-    xs: &'a [u8; 64],
-    ys: &'a [u8; 64],
-    n: usize,
-    to: &mut [u16; 64],
-) -> usize
-    requires nodes_le_node_limit { (nodes ≤ node_limit) × ((steps ≤ 63) × (buffer_bytes ≤ length buf.old)) }
-    requires to_len { length to.old ≡ 64 }
-    requires trace_len { (length trace.now ≡ 64) × AllInRange trace.now steps left.now right.now child.now }
-    requires u_bound { (u < 64) × ((v < 64) × (n ≤ 64)) }
-    requires by_index { (i : ℕ) → i < n → (get_or xs.now i 0 < 64) × (get_or ys.now i 0 < 64) }
-    ensures { Prepared nodes name.now left.now right.now child.now trace.now steps buf.old u v xs.now ys.now n buf.new to.new result }
+    pairs: &[(u8, u8)],
+) -> Pen<'a>
+    requires room { (t.now.count ≤ node_limit) × ((length trace.now ≤ 63) × (buffer_bytes ≤ length buf.old)) }
+    requires in_range { AllInRange t.now e.now trace.now }
+    requires u_bound { (u < 64) × (v < 64) }
+    requires pairs { NodePairs pairs.now }
+    ensures same_reference { result.buf.ghost_name ≡ buf.entry.ghost_name }
+    ensures prepared { Prepared t.now e.now trace.now buf.old u v pairs.now result }
 {
-    let needed = write_needed::trim(*trace, steps, left, right, child, u, v, xs, ys, n);
-    let few = needed.trace;
-    let k = needed.steps;
-    write_runs::start(buf, nodes, to);
-    replay(buf, nodes, nodes, &few, k, name, left, right, child, to)
+    let needed = write_needed::trim(trace, t, e, u, v, pairs);
+    let mut pen = Pen::start(buf, t.count);
+    replay(&mut pen, t, e, &needed);
+    pen
 }
 
-// Lines that end in u same v, where the first `steps` entries made them one class.
-pub fn explain_same<'a>(
-    buf: &mut [u8],
-    nodes: usize,
-    trace: &[u16; 64],
-    steps: usize,
-    name: &'a [u16; 256],
-    left: &'a [u8; 256],
-    right: &'a [u8; 256],
-    child: &'a [u8; 256],
-    u: u8,
-    v: u8,
-) -> usize
-    requires nodes_le_node_limit { (nodes ≤ node_limit) × ((steps ≤ 63) × (buffer_bytes ≤ length buf.old)) }
+// Lines that end in u same v, where the trace made them one class. Gives their number.
+pub fn explain_same(buf: &mut [u8], t: &Terms, e: &Equations, trace: &Trace, u: u8, v: u8) -> usize
+    requires room { (t.now.count ≤ node_limit) × ((length trace.now ≤ 63) × (buffer_bytes ≤ length buf.old)) }
+    requires in_range { AllInRange t.now e.now trace.now }
     requires u_bound { (u < 64) × (v < 64) }
-    requires trace_len { (length trace.now ≡ 64) × AllInRange trace.now steps left.now right.now child.now }
-    ensures { Explained nodes name.now left.now right.now child.now trace.now steps buf.old u v buf.new result }
+    ensures { Explained t.now e.now trace.now buf.old u v buf.new result }
 {
-    let none = [0u8; 64];
-    let mut to = [0u16; 64];
-    let n = prepare(
-        buf, nodes, trace, steps, name, left, right, child, u, v, &none, &none, 0, &mut to,
-    );
-    write_runs::link(buf, n, to[u as usize], to[v as usize]);
-    n + 2
+    let mut pen = prepare(buf, t, e, trace, u, v, &[]);
+    let i = pen.to[u as usize];
+    let j = pen.to[v as usize];
+    pen.link(i, j);
+    pen.lines
 }

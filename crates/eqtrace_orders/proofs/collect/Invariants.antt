@@ -1,11 +1,11 @@
--- `eqtrace_orders::collect` meets its contract.
-use Prim.Native.Nat.{◌-◌, ◌+◌}
-use lib.ListN.{length}
-use Rattle.eqtrace_orders.proofs.CollectLaws.{Sofar}
+-- `eqtrace_orders::collect` meets its contract: the words so far are numbers.
+use Rattle.std.proofs.Common.{length}
+use Rattle.eqtrace_orders.specs.Grammar.{split}
+use Rattle.eqtrace_orders.proofs.WordLaws.{Reading}
 use Rattle.eqtrace_orders.proofs.collect.Given as goal
 
-abbrev pub invariant-loop-v : goal.invariant-loop-v
-invariant-loop-v l = Sofar l.line l.from l.values l.count l.at
-
-abbrev pub decreases-loop-v : goal.decreases-loop-v
-decreases-loop-v l = length l.line + 1 - l.at
+abbrev pub invariant-loop-word : goal.invariant-loop-word
+invariant-loop-word l =
+    (goal.iterator-loop-word).can_next l.word-iterator ×
+    (goal.iterator-loop-word).is_finite l.word-iterator ×
+    Reading (split 32 l.words) (length l.yielded) l.numbers

@@ -1,26 +1,31 @@
--- `eqtrace_orders::parse` meets its contract.
-use lib.ListN.{drop}
-use Rattle.eqtrace_orders.proofs.ParseLaws.{parse_empty, parse_variable, parse_letter, parse_long, parse_numbers, parse_bad, collected_some}
-use borrow.Author.Rules.{rules}
+-- `eqtrace_orders::parse` meets its contract: by the line's first two bytes.
+use Rattle.std.proofs.Common.{◌≡◌, get_or, sym, ap, ◌∙◌, arith, rules, tests}
+use Rattle.eqtrace_orders.specs.Parse.{order_found}
+use Rattle.eqtrace_orders.proofs.LetterLaws.{lone, no_letter, words_bad, words_read}
 use Rattle.eqtrace_orders.proofs.parse.Goals as goal
+use Rattle.eqtrace_orders.proofs.parse.Goals.{in_default-via-then-line-lt1, in_default-via-else-line-lt1+else-line-lt2+in_default-1}
 
-pub returns-then-n-eq0 : goal.returns-then-n-eq0
-returns-then-n-eq0 c = parse_empty _ _ c.if-n-eq0.true c.plain.ensures
+pub returns-in-len1 : goal.returns-in-len1
+returns-in-len1 c = c.by_letter.ensures ∙ sym (ap order_found (lone c.args.line.now (omega arith)))
 
-pub returns-then-x-eq86 : goal.returns-then-x-eq86
-returns-then-x-eq86 c = parse_variable _ _ c.if-n-eq1.true c.if-x-eq86.true c.plain-then-x-eq86.ensures
+pub returns-in_err-collect-in-32 : goal.returns-in_err-collect-in-32
+returns-in_err-collect-in-32 c =
+    let b : get_or c.args.line.now 1 0 ≡ 32 = omega arith in
+    rw c.from_residual.ensures (words_bad c.args.line.now (omega arith) b (sym c.collect.ensures ∙ c.in_err-collect-in-32.was))
 
-pub returns-then-n-eq1 : goal.returns-then-n-eq1
-returns-then-n-eq1 c = parse_letter _ _ c.if-n-eq1.true c.if-x-eq86.false c.plain-then-n-eq1.ensures
+pub by_letter-requires-in-32 : goal.by_letter-requires-in-32
+by_letter-requires-in-32 c =
+    let b : get_or c.args.line.now 1 0 ≡ 32 = omega arith in
+    rw c.as_slice.ensures (words_read c.args.line.now (omega arith) b _ (sym c.collect.ensures ∙ c.in_ok-collect-in-32.was)).0
 
-pub returns-then-line-ne32 : goal.returns-then-line-ne32
-returns-then-line-ne32 c = parse_long _ _ (search rules) c.if-line-ne32.true c.plain-then-line-ne32.ensures
+pub returns-in_ok-collect-in-32 : goal.returns-in_ok-collect-in-32
+returns-in_ok-collect-in-32 c =
+    let b : get_or c.args.line.now 1 0 ≡ 32 = omega arith in
+    rw (c.by_letter-in-32.ensures, c.as_slice.ensures) (words_read c.args.line.now (omega arith) b _ (sym c.collect.ensures ∙ c.in_ok-collect-in-32.was)).1
 
-pub by_letter-requires : goal.by_letter-requires
-by_letter-requires c = collected_some (drop 2 c.args.line.now) c.collect-ns.result c.collect-ns.ensures c.if-ns.true
-
-pub returns-then-ns : goal.returns-then-ns
-returns-then-ns c = parse_numbers _ (search rules) c.if-line-ne32.false _ c.collect-ns.ensures _ c.if-ns.true c.by_letter.ensures
-
-pub returns : goal.returns
-returns c = parse_bad _ (search rules) c.if-line-ne32.false _ c.collect-ns.ensures _ c.if-ns.false c.plain-2.ensures
+pub returns-in_default : goal.returns-in_default
+returns-in_default c =
+    elim c.in_default.branch [
+      | in_default-via-then-line-lt1 w ↦ sym (ap order_found (no_letter c.args.line.now (λ n. absurd (search (rules, tests))) (λ n e. absurd (search (rules, tests)))))
+      | in_default-via-else-line-lt1+else-line-lt2+in_default-1 w ↦ sym (ap order_found (no_letter c.args.line.now (λ n. absurd (search (rules, tests))) (λ n e. absurd (search (rules, tests)))))
+    ]

@@ -1,16 +1,16 @@
 -- `eqtrace_script::line_end` meets its contract.
-use Rattle.eqtrace_orders.proofs.InputLaws.{seeking_none, seeking_break, seeking_more, seeking_all}
-use native.Mathlib.Omega.{arith}
+use Rattle.std.proofs.Common.{eqb, sym, ◌∙◌, rules, tests}
+use Rattle.std.proofs.lemmas.Iterator.{YieldsList-from_slice}
+use Rattle.std.proofs.lemmas.Iterator.Search.{position_from_yields_List}
+use Rattle.eqtrace_script.proofs.ScriptLaws.{ends_break, ends_all, rest_is}
 use Rattle.eqtrace_script.proofs.line_end.Goals as goal
 
-pub loop-i-init : goal.loop-i-init
-loop-i-init c = seeking_none _ _ c.requires
+pub returns-in-Some : goal.returns-in-Some
+returns-in-Some c =
+    let e = position_from_yields_List (λ b. eqb b 10) _ _ _ c.position.ensures.ran (YieldsList-from_slice _ c.iter.ensures.rest) (λ x b q k. search (rules, tests)) in
+    ends_break c.args.input.now c.args.at c.requires _ (rest_is c.args.input.now c.args.at) _ (sym e ∙ c.in-Some.is)
 
-pub returns-then-input-i-eq10 : goal.returns-then-input-i-eq10
-returns-then-input-i-eq10 c = seeking_break _ _ _ c.loop-i.invariant c.loop-i-test.true (omega (arith, c.if-input-i-eq10.true))
-
-pub loop-i-preserved : goal.loop-i-preserved
-loop-i-preserved c = seeking_more _ _ _ c.loop-i.invariant c.loop-i-test.true c.if-input-i-eq10.false
-
-pub returns : goal.returns
-returns c = seeking_all _ _ _ c.loop-i.invariant c.loop-i-test.false
+pub returns-in-None : goal.returns-in-None
+returns-in-None c =
+    let e = position_from_yields_List (λ b. eqb b 10) _ _ _ c.position.ensures.ran (YieldsList-from_slice _ c.iter.ensures.rest) (λ x b q k. search (rules, tests)) in
+    ends_all c.args.input.now c.args.at c.requires _ (rest_is c.args.input.now c.args.at) (sym e ∙ c.in-None.is)

@@ -1,59 +1,33 @@
 -- `proof_claims::claim` meets its contract: each rule is the one of `claim_of`, once the line is tidy.
-use mathlib.Core.Path.{◌∙◌}
-use Rattle.store.specs.Views.{terms}
+use Rattle.std.proofs.Common.{◌∙◌}
+use Rattle.proof_lines.specs.declared.Rule.TheVariants.{Equation, Child, Reflexivity, Symmetry, Transitivity, Down}
 use Rattle.proof_rules.proofs.NodeLaws.{reflexivity_by}
-use Rattle.proof_claims.proofs.RuleLaws.{claim_untidy, claim_other, claim_1, claim_2, claim_3, claim_4, claim_5, claim_6}
-use native.Mathlib.Omega.{arith}
+use Rattle.proof_claims.proofs.RuleLaws.{claim_untidy, claim_unruled, claim_ruled}
 use Rattle.proof_claims.proofs.claim.Goals as goal
 
 pub returns-then-not-tidy : goal.returns-then-not-tidy
-returns-then-not-tidy g c =
-    let tidy = c.tidy in
-    rw (← c.requires.0) (claim_untidy _ _ _ tidy.result tidy.ensures c.if-not-tidy.true)
-
-pub returns-in-1 : goal.returns-in-1
-returns-in-1 g c =
-    let tidy = c.tidy in
-    let if1 = c.if-not-tidy in
-    let match = c.in-1 in
-    rw (← c.requires.0) (claim_1 _ _ _ tidy.result tidy.ensures (if1.false) _ match.is c.by_equation.ensures)
-
-pub returns-in-2 : goal.returns-in-2
-returns-in-2 g c =
-    let tidy = c.tidy in
-    let if1 = c.if-not-tidy in
-    let match = c.in-2 in
-    rw (← c.requires.0) (claim_2 _ _ _ tidy.result tidy.ensures (if1.false) _ match.is c.by_child.ensures)
-
-pub returns-in-3 : goal.returns-in-3
-returns-in-3 g c =
-    let args = c.args in
-    let tidy = c.tidy in
-    let if1 = c.if-not-tidy in
-    let match = c.in-3 in
-    rw (← c.requires.0) (claim_3 _ _ _ tidy.result tidy.ensures (if1.false) _ match.is (c.by_reflexivity.ensures ∙ reflexivity_by (terms args.n args.kind.now args.symbol.now args.arity.now args.child.now) args.l.first))
-
-pub returns-in-4 : goal.returns-in-4
-returns-in-4 g c =
-    let tidy = c.tidy in
-    let if1 = c.if-not-tidy in
-    let match = c.in-4 in
-    rw (← c.requires.0) (claim_4 _ _ _ tidy.result tidy.ensures (if1.false) _ match.is c.by_symmetry.ensures)
-
-pub returns-in-5 : goal.returns-in-5
-returns-in-5 g c =
-    let tidy = c.tidy in
-    let if1 = c.if-not-tidy in
-    let match = c.in-5 in
-    rw (← c.requires.0) (claim_5 _ _ _ tidy.result tidy.ensures (if1.false) _ match.is c.by_transitivity.ensures)
-
-pub returns-in-6 : goal.returns-in-6
-returns-in-6 g c =
-    let tidy = c.tidy in
-    let if1 = c.if-not-tidy in
-    let match = c.in-6 in
-    rw (← c.requires.0) (claim_6 _ _ _ tidy.result tidy.ensures (if1.false) _ match.is c.by_down.ensures)
+returns-then-not-tidy c = claim_untidy _ _ _ _ c.tidy.ensures c.if-not-tidy.true
 
 pub returns-in_default : goal.returns-in_default
-returns-in_default g c =
-    rw (← c.requires.0) (claim_other _ _ _ (λ e. omega arith) (λ e. omega arith) (λ e. omega arith) (λ e. omega arith) (λ e. omega arith) (λ e. omega arith))
+returns-in_default c = claim_unruled _ _ _ c.in_default.ensures
+
+pub returns-in-Equation : goal.returns-in-Equation
+returns-in-Equation c = claim_ruled _ _ _ _ c.tidy.ensures c.if-not-tidy.false _ Equation c.in-Ok.ensures c.in-Equation.is _ c.by_equation.ensures
+
+pub returns-in-Child : goal.returns-in-Child
+returns-in-Child c = claim_ruled _ _ _ _ c.tidy.ensures c.if-not-tidy.false _ Child c.in-Ok.ensures c.in-Child.is _ c.by_child.ensures
+
+pub returns-in-Reflexivity : goal.returns-in-Reflexivity
+returns-in-Reflexivity c =
+    claim_ruled _ _ _ _ c.tidy.ensures c.if-not-tidy.false _ Reflexivity c.in-Ok.ensures c.in-Reflexivity.is _
+    (c.by_reflexivity.ensures ∙ reflexivity_by c.args.t.now c.args.l.now.fields.first)
+
+pub returns-in-Symmetry : goal.returns-in-Symmetry
+returns-in-Symmetry c = claim_ruled _ _ _ _ c.tidy.ensures c.if-not-tidy.false _ Symmetry c.in-Ok.ensures c.in-Symmetry.is _ c.by_symmetry.ensures
+
+pub returns-in-Transitivity : goal.returns-in-Transitivity
+returns-in-Transitivity c =
+    claim_ruled _ _ _ _ c.tidy.ensures c.if-not-tidy.false _ Transitivity c.in-Ok.ensures c.in-Transitivity.is _ c.by_transitivity.ensures
+
+pub returns-in-Down : goal.returns-in-Down
+returns-in-Down c = claim_ruled _ _ _ _ c.tidy.ensures c.if-not-tidy.false _ Down c.in-Ok.ensures c.in-Down.is _ c.by_down.ensures

@@ -1,21 +1,12 @@
--- `proof_reader::count_lines` meets its contract: the line to come is one of the whole ones, or the first past them.
-use Rattle.proof_reader.proofs.ReadLaws.{fields_inside, end_outside}
-use native.Mathlib.Omega.{arith}
+-- `proof_reader::count_lines` meets its contract.
+use Rattle.std.proofs.Common.{refl, ◌∙◌, inl, arith}
+use Rattle.std.proofs.lemmas.Iterator.Consumers.{count_from_yields_List, YieldsList-from_first}
+use Rattle.proof_reader.specs.Read.{lines_left}
+use Rattle.proof_reader.proofs.ReadLaws.{left_all}
 use Rattle.proof_reader.proofs.count_lines.Goals as goal
 
-pub loop-at-smaller : goal.loop-at-smaller
-loop-at-smaller c =
-    let l = c.loop-at in
-    let i = fields_inside c.args.lines.now l.at c.read_line-f.result c.read_line-f.ensures c.in-Fields.is in
-    omega (arith, i.0, i.1, l.invariant)
+pub count-requires-clause-fits : goal.count-requires-clause-fits
+count-requires-clause-fits c = inl (omega (arith, left_all c.args.lines.now))
 
-pub loop-at-preserved : goal.loop-at-preserved
-loop-at-preserved c =
-    let l = c.loop-at in
-    let i = fields_inside c.args.lines.now l.at c.read_line-f.result c.read_line-f.ensures c.in-Fields.is in
-    omega (arith, i.0, i.1, l.invariant)
-
-pub returns-in-End : goal.returns-in-End
-returns-in-End c =
-    let l = c.loop-at in
-    omega (arith, end_outside c.args.lines.now l.at c.read_line-f.result c.read_line-f.ensures c.in-End.is, l.invariant)
+pub returns : goal.returns
+returns c = count_from_yields_List _ _ c.count.ensures.ran (YieldsList-from_first (λ x. x) lines_left _ refl) ∙ left_all c.args.lines.now

@@ -1,25 +1,14 @@
 -- `solve::judge` meets its contract.
 use Rattle.solve.proofs.DecidedLaws.{decided_clash, decided_solved, decided_cycle}
-use native.Mathlib.Omega.{arith}
 use Rattle.solve.proofs.judge.Goals as goal
 
-pub overflow_cast-u : goal.overflow_cast-u
-overflow_cast-u c = omega (arith, c.requires.left c.if-o.true)
+pub returns-in-Some-clause-decided : goal.returns-in-Some-clause-decided
+returns-in-Some-clause-decided c = λ s es N D. decided_clash _ s c.requires.formed N es D _ _ _ c.in-Some.is
 
-pub overflow_cast-v : goal.overflow_cast-v
-overflow_cast-v c = omega (arith, c.requires.right c.if-o.true)
+pub returns-then-heights-eq0-clause-decided : goal.returns-then-heights-eq0-clause-decided
+returns-then-heights-eq0-clause-decided c =
+    λ s es N D. decided_solved _ s c.requires.formed N es D _ c.in_default.is c.peel-heights.ensures c.if-heights-eq0.true
 
-pub returns-then-o : goal.returns-then-o
-returns-then-o c =
-    let A = c.requires in
-    record { left_over = tt; decided = λ s tr N D. decided_clash _ s A.formed N _ tr _ D _ _ _ (omega arith) (omega arith) c.if-o.true }
-
-pub returns-then-heights-eq0 : goal.returns-then-heights-eq0
-returns-then-heights-eq0 c =
-    let A = c.requires in
-    record { left_over = c.peel-heights.ensures; decided = λ s tr N D. decided_solved _ s A.formed N _ tr _ D _ _ c.if-o.false c.peel-heights.ensures (omega (arith, c.if-heights-eq0.true)) }
-
-pub returns : goal.returns
-returns c =
-    let A = c.requires in
-    record { left_over = c.peel-heights.ensures; decided = λ s tr N D. decided_cycle _ s A.formed N _ tr _ D _ _ c.if-o.false c.peel-heights.ensures c.if-heights-eq0.false }
+pub returns-else-heights-eq0-clause-decided : goal.returns-else-heights-eq0-clause-decided
+returns-else-heights-eq0-clause-decided c =
+    λ s es N D. decided_cycle _ s c.requires.formed N es D _ c.in_default.is c.peel-heights.ensures c.if-heights-eq0.false

@@ -4,14 +4,14 @@ use native.Mathlib.Omega.{arith}
 use Rattle.solve_classes.specs.Members.{in_class, functor_kind}
 use Rattle.solve_classes.proofs.MemberLaws.{ones_size, size_most, zeros_number, number_small}
 use Rattle.solve_classes.proofs.class_figures.Goals as goal
-use Rattle.solve_classes.proofs.class_figures.Goals.{then-shown-eq0, else-shown-eq0}
+use Rattle.solve_classes.proofs.class_figures.Goals.{then-functors-eq0, else-functors-eq0}
 
 pub returns : goal.returns
 returns c =
     let a = c.args in
     let f = in_class a.table a.c in
     let g = functor_kind a.kind in (
-      zeros_number f g c.members-all.ensures c.members.ensures (elim c.if-shown-eq0.branch [ then-shown-eq0 w ↦ inl (w.if-shown-eq0.true, w.shown-is) | else-shown-eq0 w ↦ inr (w.if-shown-eq0.false, w.shown-is) ]),
+      zeros_number f g c.members-all.ensures c.members.ensures (elim c.if-functors-eq0.branch [ then-functors-eq0 w ↦ inl (w.if-functors-eq0.true, w.shown-is) | else-functors-eq0 w ↦ inr (w.if-functors-eq0.false, w.shown-is) ]),
       ones_size f c.members-all.ensures,
     )
 

@@ -1,56 +1,61 @@
--- `solve_closure::round` meets its contract: the nodes from i up are visited.
-use mathlib.Core.Path.{◌≡◌, refl}
-use Prim.Native.Nat.{◌-◌}
-use lib.ListN.{get_or-replicate}
-use Rattle.solve_closure.proofs.VisitLaws.{own, meeting, visit_idle, visit_pair, passed_visiting, passed_none, passed_more, passed_clash, passed_all}
-use native.Mathlib.Omega.{arith}
-use borrow.Author.Rules.{rules}
+-- `solve_closure::round` meets its contract: the nodes from u up are visited.
+use Rattle.std.proofs.Common.{rules, arith, ◌-◌, ◌≡◌, None}
+use Rattle.std.proofs.lemmas.List.{get_or-replicate}
+use Rattle.solve_trace.specs.Nodes.{Alike}
+use Rattle.solve_closure.proofs.VisitLaws.{own, meeting, visit_idle, visit_pair, visit_clash, passed_visiting, meeting_low, pair_places, pair_bounds, pair_agree, passed_none, passed_more, passed_clash, passed_all}
 use Rattle.solve_closure.proofs.round.Goals as goal
 
-pub loop-i-init : goal.loop-i-init
-loop-i-init c = (search rules, passed_none _ _ _ _ _ c.requires.trace_fits (search rules) (λ i h. get_or-replicate 64 i 64 0 h))
+pub loop-u-init : goal.loop-u-init
+loop-u-init c = passed_none _ _ _ _ c.requires.trace_fits (search rules) (λ i h. get_or-replicate 64 i None None h)
 
-pub bounds-t-i : goal.bounds-t-i
-bounds-t-i c = omega (arith, c.requires.formed.most)
+pub visit-requires : goal.visit-requires
+visit-requires c =
+    let A = passed_visiting (c.loop-u.u - 1) c.loop-u.u (omega arith) c.requires.formed c.loop-u.invariant in
+    (omega (arith, c.from.ensures, own _ _ _ _ _ A), omega (arith, c.requires.formed.most))
 
-pub bounds-kind-i : goal.bounds-kind-i
-bounds-kind-i c = omega (arith, c.requires.formed.most)
+pub loop-u-preserved-in_default : goal.loop-u-preserved-in_default
+loop-u-preserved-in_default c =
+    let A = passed_visiting (c.loop-u.u - 1) c.loop-u.u (omega arith) c.requires.formed c.loop-u.invariant in
+    passed_more _ _ _ (c.loop-u.u - 1) _ (omega arith) c.loop-u.invariant
+    (visit_idle _ _ _ _ _ A c.from.ensures c.visit.ensures c.in_default.not-Some) c.requires.formed
 
-pub visit-v-requires : goal.visit-v-requires
-visit-v-requires c =
-    let A = passed_visiting (c.loop-i.i - 1) c.loop-i.i (omega arith) c.requires.formed c.loop-i.invariant.1 in
-    (A.heads.size, omega (arith, c.wide-c.ensures, own _ _ _ _ _ _ A), omega (arith, c.requires.formed.most))
+pub bounds-t-w : goal.bounds-t-w
+bounds-t-w c =
+    let A = passed_visiting (c.loop-u.u - 1) c.loop-u.u (omega arith) c.requires.formed c.loop-u.invariant in
+    let M = meeting _ _ _ _ _ A c.from.ensures c.in-Some.ensures in
+    let low = meeting_low M in
+    omega (arith, c.from-w.ensures, low.1)
 
-pub pair-o-requires : goal.pair-o-requires
-pair-o-requires c =
-    let A = passed_visiting (c.loop-i.i - 1) c.loop-i.i (omega arith) c.requires.formed c.loop-i.invariant.1 in
-    rw c.wide.ensures (meeting _ _ _ _ _ _ A c.wide-c.ensures c.visit-v.ensures c.if-v-lt-NO_HEAD.true)
+pub returns-then-t-u : goal.returns-then-t-u
+returns-then-t-u c =
+    let A = passed_visiting (c.loop-u.u - 1) c.loop-u.u (omega arith) c.requires.formed c.loop-u.invariant in
+    passed_clash _ _ _ (c.loop-u.u - 1) _ (omega arith) c.loop-u.invariant _ _
+    (visit_clash _ _ _ _ _ A c.from.ensures c.in-Some.ensures (λ a. c.if-t-u.true (cc)))
 
-pub returns-then-o : goal.returns-then-o
-returns-then-o c =
-    let A = passed_visiting (c.loop-i.i - 1) c.loop-i.i (omega arith) c.requires.formed c.loop-i.invariant.1 in
-    passed_clash _ _ _ _ (c.loop-i.i - 1) _ (omega arith) c.loop-i.invariant.1
-    (visit_pair _ _ _ _ _ _ A c.wide-c.ensures c.visit-v.ensures c.if-v-lt-NO_HEAD.true (rw c.wide.ensures at c.pair-o.ensures.pair) (rw c.wide.ensures at c.pair-o.ensures.left_value))
-    c.if-o.true
+pub join_children-next-requires-clause-u_bound : goal.join_children-next-requires-clause-u_bound
+join_children-next-requires-clause-u_bound c =
+    let A = passed_visiting (c.loop-u.u - 1) c.loop-u.u (omega arith) c.requires.formed c.loop-u.invariant in
+    let M = meeting _ _ _ _ _ A c.from.ensures c.in-Some.ensures in
+    let alike : Alike c.args.t.now (c.loop-u.u - 1) c.in-Some.v = cc in
+    let l = meeting_low M in
+    rw c.from-w.ensures (l.0, l.1, (pair_places _ _ _ _ _ M alike).0, l.2)
 
-pub loop-i-preserved-then-v-lt-NO_HEAD : goal.loop-i-preserved-then-v-lt-NO_HEAD
-loop-i-preserved-then-v-lt-NO_HEAD c =
-    let A = passed_visiting (c.loop-i.i - 1) c.loop-i.i (omega arith) c.requires.formed c.loop-i.invariant.1 in (
-      omega arith,
-      passed_more _ _ _ _ (c.loop-i.i - 1) _ (omega arith) c.loop-i.invariant.1
-          (visit_pair _ _ _ _ _ _ A c.wide-c.ensures c.visit-v.ensures c.if-v-lt-NO_HEAD.true (rw c.wide.ensures at c.pair-o.ensures.pair) (rw c.wide.ensures at c.pair-o.ensures.left_value))
-          c.if-o.false c.requires.formed,
-    )
+pub join_children-next-requires-clause-by_index : goal.join_children-next-requires-clause-by_index
+join_children-next-requires-clause-by_index c =
+    let A = passed_visiting (c.loop-u.u - 1) c.loop-u.u (omega arith) c.requires.formed c.loop-u.invariant in
+    let M = meeting _ _ _ _ _ A c.from.ensures c.in-Some.ensures in
+    let alike : Alike c.args.t.now (c.loop-u.u - 1) c.in-Some.v = cc in
+    rw c.from-w.ensures (pair_bounds _ _ _ _ _ M alike)
 
-pub loop-i-preserved : goal.loop-i-preserved
-loop-i-preserved c =
-    let A = passed_visiting (c.loop-i.i - 1) c.loop-i.i (omega arith) c.requires.formed c.loop-i.invariant.1 in (
-      omega arith,
-      passed_more _ _ _ _ (c.loop-i.i - 1) _ (omega arith) c.loop-i.invariant.1
-          (visit_idle _ _ _ _ _ _ A c.wide-c.ensures c.visit-v.ensures 0 0 c.if-v-lt-NO_HEAD.false) refl c.requires.formed,
-    )
+pub loop-u-preserved : goal.loop-u-preserved
+loop-u-preserved c =
+    let A = passed_visiting (c.loop-u.u - 1) c.loop-u.u (omega arith) c.requires.formed c.loop-u.invariant in
+    let M = meeting _ _ _ _ _ A c.from.ensures c.in-Some.ensures in
+    let alike : Alike c.args.t.now (c.loop-u.u - 1) c.in-Some.v = cc in
+    passed_more _ _ _ (c.loop-u.u - 1) _ (omega arith) c.loop-u.invariant
+    (visit_pair _ _ _ _ _ A c.from.ensures c.in-Some.ensures (pair_agree _ _ _ _ _ M alike (rw c.from-w.ensures at c.join_children-next.ensures))) c.requires.formed
 
 pub returns : goal.returns
 returns c =
-    let z : c.loop-i.i ≡ 0 = omega arith in
-    passed_all _ _ _ _ _ _ c.requires.formed (rw z at c.loop-i.invariant.1)
+    let z : c.loop-u.u ≡ 0 = omega arith in
+    passed_all _ _ _ c.requires.formed (rw z at c.loop-u.invariant)

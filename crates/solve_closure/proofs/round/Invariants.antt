@@ -1,12 +1,6 @@
--- `solve_closure::round` meets its contract: the nodes from i up are visited.
-use Prim.Native.Nat.{◌≤◌}
-use Rattle.store.specs.Views.{terms}
+-- `solve_closure::round` meets its contract: the nodes from u up are visited.
 use Rattle.solve_closure.proofs.VisitLaws.{Passed}
 use Rattle.solve_closure.proofs.round.Given as goal
 
-abbrev pub invariant-loop-i : goal.invariant-loop-i
-invariant-loop-i l =
-    (l.i ≤ l.n) × Passed (terms l.n l.kind l.symbol l.arity l.child) l.initial.t l.initial.trace l.initial.k l.i l.t l.trace l.k l.head
-
-abbrev pub decreases-loop-i : goal.decreases-loop-i
-decreases-loop-i l = l.i
+abbrev pub invariant-loop-u : goal.invariant-loop-u
+invariant-loop-u l = Passed l.t l.initial.table l.initial.trace l.u l.table l.trace l.head

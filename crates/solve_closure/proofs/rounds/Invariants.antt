@@ -1,12 +1,11 @@
 -- `solve_closure::rounds` meets its contract: each round but the last lengthens the trace, which has at most 63 entries.
-use Prim.Native.Nat.{◌-◌}
-use Rattle.store.specs.Views.{terms}
+use Rattle.std.proofs.Common.{◌-◌, length}
 use Rattle.solve_trace.specs.Nodes.{Nodes}
 use Rattle.solve_trace.specs.Steps.{Extends}
 use Rattle.solve_closure.proofs.rounds.Given as goal
 
-abbrev pub invariant-loop-o : goal.invariant-loop-o
-invariant-loop-o l = Extends (Nodes (terms l.n l.kind l.symbol l.arity l.child)) l.initial.t l.initial.trace l.initial.k l.t l.trace l.k
+abbrev pub invariant-loop-trace : goal.invariant-loop-trace
+invariant-loop-trace l = Extends (Nodes l.t) l.initial.table l.initial.trace l.table l.trace
 
-abbrev pub decreases-loop-o : goal.decreases-loop-o
-decreases-loop-o l = 64 - l.k
+abbrev pub decreases-loop-trace : goal.decreases-loop-trace
+decreases-loop-trace l = 64 - length l.trace

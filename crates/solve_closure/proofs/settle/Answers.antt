@@ -1,13 +1,13 @@
 -- `solve_closure::settle` meets its contract: equations from the fresh table, then rounds.
+use Rattle.std.proofs.Common.{arith}
 use Rattle.solve_classes.proofs.CountLaws.{classes_most}
-use Rattle.solve_closure.proofs.SettledLaws.{solved, ended}
-use native.Mathlib.Omega.{arith}
+use Rattle.solve_closure.proofs.SettledLaws.{solved}
 use Rattle.solve_closure.proofs.settle.Goals as goal
 
-pub join_equations-p-requires : goal.join_equations-p-requires
-join_equations-p-requires c =
-    let A = c.requires.given in record { trace_fits = record { table = c.fresh-start.ensures.table; size = c.requires.trace_len; room = omega (arith, classes_most c.fresh-start.result) }; m_le_equation_limit = A.most; by_index = λ k h. (omega (arith, A.lefts k h, A.formed.most), omega (arith, A.rights k h, A.formed.most)) }
+pub join_equations-table-requires-clause-trace_fits : goal.join_equations-table-requires-clause-trace_fits
+join_equations-table-requires-clause-trace_fits c =
+    rw c.clear.ensures (record { table = c.fresh.ensures.table; room = omega (arith, classes_most c.fresh.result) })
 
-pub returns : goal.returns
-returns c =
-    record { rounds_ended = ended c.rounds.ensures; settled = solved _ _ _ _ _ _ c.requires.given c.fresh-start.ensures c.join_equations-p.ensures c.rounds.ensures }
+pub returns-clause-settled : goal.returns-clause-settled
+returns-clause-settled c =
+    solved _ _ _ c.requires c.fresh.ensures (rw c.clear.ensures at c.join_equations-table.ensures) c.rounds.ensures

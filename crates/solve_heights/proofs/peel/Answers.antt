@@ -1,7 +1,12 @@
 -- `solve_heights::peel` meets its contract.
-use Rattle.solve_heights.proofs.StartLaws.{peel_start}
+use Rattle.solve_heights.proofs.EndLaws.{all_released, peel_ends}
+use native.Mathlib.Omega.{arith}
 use Rattle.solve_heights.proofs.peel.Goals as goal
 
-pub rounds-left-requires : goal.rounds-left-requires
-rounds-left-requires c =
-    record { table = c.requires.table; formed = c.requires.formed; peeling = peel_start _ _ _ _ c.requires.table c.requires.formed c.count-total.ensures; total_value = c.count-total.ensures.classes }
+pub run-requires-clause-full : goal.run-requires-clause-full
+run-requires-clause-full c = λ w P l. all_released _ _ w P (omega (arith, l, P.total, c.start-p.ensures.total))
+
+pub returns : goal.returns
+returns c =
+    let P = c.run.ensures.between in
+    peel_ends _ _ _ P c.run.ensures.closed _ (omega (arith, P.total, c.start-p.ensures.total))

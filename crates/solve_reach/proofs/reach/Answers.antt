@@ -1,11 +1,10 @@
 -- `solve_reach::reach` meets its contract.
-use Rattle.solve_reach.proofs.ReachLaws.{reach_start}
 use native.Mathlib.Omega.{arith}
+use Rattle.solve_reach.proofs.ReachLaws.{reach_start, all_explored}
 use Rattle.solve_reach.proofs.reach.Goals as goal
 
-pub rounds-requires : goal.rounds-requires
-rounds-requires c =
-    record { table = c.requires.table; formed = c.requires.formed; u_lt_n = omega (arith, c.wide.ensures, c.requires.u_lt_n); reaching = reach_start _ _ _ }
+pub run-requires-clause-between : goal.run-requires-clause-between
+run-requires-clause-between c = reach_start _ _ c.requires.table c.requires.formed _ (omega (arith, c.from.ensures, c.requires.known))
 
-pub returns : goal.returns
-returns c = rw c.wide.ensures at c.rounds.ensures
+pub run-requires-clause-full : goal.run-requires-clause-full
+run-requires-clause-full c = λ w R h p l. all_explored _ _ w R h p

@@ -1,14 +1,15 @@
 -- `solve_trace::join` meets its contract.
-use Rattle.solve_trace.specs.Steps.{idle}
-use Rattle.solve_trace.proofs.StepLaws.{ready_room, joins_grown}
-use native.Mathlib.Omega.{arith}
+use Rattle.solve_trace.specs.Steps.{idle, grown}
+use Rattle.solve_trace.proofs.StepLaws.{ready_room}
 use Rattle.solve_trace.proofs.join.Goals as goal
 
-pub returns-then-table-x : goal.returns-then-table-x
-returns-then-table-x c = idle c.if-table-x.true
+pub returns-then-first-second : goal.returns-then-first-second
+returns-then-first-second c = idle (cc)
 
-pub bounds-trace-steps : goal.bounds-trace-steps
-bounds-trace-steps c = omega (arith, ready_room c.requires.trace_fits)
+pub push-requires : goal.push-requires
+push-requires c = ready_room c.requires.trace_fits
 
 pub returns : goal.returns
-returns c = joins_grown _ c.if-table-x.false c.merge-next.ensures (omega arith) (omega arith)
+returns c =
+    let b = c.requires.x_bound in
+    rw c.push.ensures (grown (λ q. c.if-first-second.false (cc)) (c.unite.ensures _ _ b.0 b.1 (cc) (cc)))

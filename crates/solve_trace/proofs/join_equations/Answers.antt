@@ -1,45 +1,27 @@
 -- `solve_trace::join_equations` meets its contract: after k turns the first k equations are joined.
-use Prim.Native.Nat.{◌-◌}
-use Rattle.solve_trace.proofs.ReasonLaws.{entry_is, by_equation_lem}
-use Rattle.solve_trace.proofs.StepLaws.{ready_room, pairs_none, pairs_unite, pairs_skip, pairs_all}
-use native.Mathlib.Omega.{arith}
-use borrow.Author.Rules.{rules}
+use Rattle.std.proofs.Common.{rules, ℕ, length, get_or, arith, length-append}
+use Rattle.solve_trace.specs.Nodes.{EquationEnds}
+use Rattle.solve_trace.specs.Steps.{grown}
+use Rattle.solve_trace.proofs.LoopLaws.{equation_turn}
+use Rattle.solve_trace.proofs.StepLaws.{ready_room, pairs_more, pairs_skip}
+use Rattle.solve_trace.proofs.ReasonLaws.{by_equation_lem}
 use Rattle.solve_trace.proofs.join_equations.Goals as goal
-use Rattle.solve_trace.proofs.join_equations.Goals.{then-cx-cy, else-cx-cy}
 
-pub loop-k-init : goal.loop-k-init
-loop-k-init c = (search rules, pairs_none _ _ _ _ _ _ c.requires.trace_fits)
+pub push-requires : goal.push-requires
+push-requires c = ready_room c.loop-k.invariant.extends.ready
 
-pub bounds-t-wide : goal.bounds-t-wide
-bounds-t-wide c =
-    omega (arith, c.wide.ensures, (c.requires.by_index c.loop-k.k (search rules)).0)
-
-pub bounds-t-wide-in-loop-k : goal.bounds-t-wide-in-loop-k
-bounds-t-wide-in-loop-k c =
-    omega (arith, c.wide-in-loop-k.ensures, (c.requires.by_index c.loop-k.k (search rules)).1)
-
-pub unite-next-requires : goal.unite-next-requires
-unite-next-requires c = c.loop-k.invariant.1.extends.ready.table
-
-pub bounds-trace-n : goal.bounds-trace-n
-bounds-trace-n c =
-    omega (arith, ready_room c.loop-k.invariant.1.extends.ready)
-
-pub overflow_add-n : goal.overflow_add-n
-overflow_add-n c =
-    omega (arith, ready_room c.loop-k.invariant.1.extends.ready)
+pub loop-k-preserved-then-first-second : goal.loop-k-preserved-then-first-second
+loop-k-preserved-then-first-second c =
+    let e = c.args.e.now in
+    let n = length c.loop-k.yielded in
+    let w = equation_turn e c.loop-k.yielded c.into_iter-k-iterator.result c.loop-k.k-iterator c.next.new.self c.next.result (search rules) (search rules) (search rules) c.loop-k.yielded_by _ c.in-Some.is c.next.ensures.steps in
+    let b = c.requires.by_index _ w.1 in
+    rw (length-append, c.push.ensures) (pairs_more (EquationEnds e) (λ (j : ℕ). get_or e.left j 0) (λ (j : ℕ). get_or e.right j 0) n w.2 w.3 (λ j h. c.requires.by_index j (omega (arith, w.1))) (λ s E. by_equation_lem e _ s n _ (omega (arith, w.0)) w.1 E) c.loop-k.invariant
+    (grown (λ q. c.if-first-second.true (cc)) (c.unite-next.ensures _ _ (omega (arith, w.2, b.0)) (omega (arith, w.3, b.1)) (cc) (cc))))
 
 pub loop-k-preserved : goal.loop-k-preserved
 loop-k-preserved c =
-    let k = c.loop-k.k in
-    let P = c.loop-k.invariant.1 in (
-      search rules,
-      elim c.if-cx-cy.branch [
-        | then-cx-cy w ↦ rw (w.trace-is, w.t-is, w.n-is)
-            (pairs_unite _ _ _ k _ (λ j h. c.requires.by_index j (omega arith)) (λ s E. entry_is _ (omega arith) (by_equation_lem _ _ _ _ s k (search rules) E)) P c.wide.ensures c.wide-in-loop-k.ensures w.if-cx-cy.true w.unite-next.ensures)
-        | else-cx-cy w ↦ rw (w.trace-is, w.t-is, w.n-is) (pairs_skip _ _ _ k P c.wide.ensures c.wide-in-loop-k.ensures w.if-cx-cy.false)
-      ],
-    )
-
-pub returns : goal.returns
-returns c = pairs_all _ _ _ _ _ (omega arith) c.loop-k.invariant.1
+    let e = c.args.e.now in
+    let n = length c.loop-k.yielded in
+    let w = equation_turn e c.loop-k.yielded c.into_iter-k-iterator.result c.loop-k.k-iterator c.next.new.self c.next.result (search rules) (search rules) (search rules) c.loop-k.yielded_by _ c.in-Some.is c.next.ensures.steps in
+    rw length-append (pairs_skip (EquationEnds e) (λ (j : ℕ). get_or e.left j 0) (λ (j : ℕ). get_or e.right j 0) n w.2 w.3 (cc) c.loop-k.invariant)

@@ -1,19 +1,18 @@
 -- `store::all_below` meets its contract.
-use mathlib.Core.Path.{sym, ◌∙◌}
-use Prim.Native.Nat.{◌-◌}
-use Rattle.store.proofs.BelowLaws.{below_not, below_on, below_end}
-use native.Mathlib.Omega.{arith}
-use borrow.Author.Rules.{rules}
+use Rattle.std.proofs.Common.{rules, refl, ℕ}
+use borrow.Author.Tests.{tests}
+use lib.Dec.{ltb}
+use mathlib.Core.Bool.{◌&&◌}
+use mathlib.Core.Path.{◌∙◌}
+use Rattle.std.specs.List.{list_all}
+use Rattle.std.proofs.lemmas.Iterator.{YieldsList-from_slice}
+use Rattle.std.proofs.lemmas.Iterator.Search.{all_from_yields_List}
+use Rattle.std.proofs.lemmas.List.Recursion.{same_from_clauses}
+use Rattle.graph.specs.Book.{all_below}
 use Rattle.store.proofs.all_below.Goals as goal
-
-pub returns-then-n-children : goal.returns-then-n-children
-returns-then-n-children c =
-    sym (below_not c.args.n c.args.children.now c.loop-i.i (search rules) c.if-n-children.true) ∙ c.loop-i.invariant.1
-
-pub loop-i-preserved : goal.loop-i-preserved
-loop-i-preserved c =
-    (search rules, below_on c.args.n c.args.children.now c.loop-i.i (search rules) c.if-n-children.false ∙ c.loop-i.invariant.1)
 
 pub returns : goal.returns
 returns c =
-    sym (below_end c.args.n c.args.children.now c.loop-i.i (omega arith)) ∙ c.loop-i.invariant.1
+    let n : ℕ = c.args.n in
+    all_from_yields_List (λ x. ltb x n) _ _ _ c.all.ensures.ran (YieldsList-from_slice c.args.children.now cc) (λ x b q k. search (rules, tests))
+    ∙ same_from_clauses (list_all (λ x. ltb x n)) (all_below n) (λ x b. ltb x n && b) refl (λ x xs. refl) (λ x xs. refl) c.args.children.now

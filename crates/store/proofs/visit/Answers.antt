@@ -1,12 +1,14 @@
 -- `store::visit` meets its contract.
+use mathlib.Core.Path.{sym, ◌∙◌}
+use borrow.Author.Tests.{eqb-true, eqb-false}
 use Rattle.store.specs.Heads.{variable, first, further}
 use Rattle.store.proofs.visit.Goals as goal
 
-pub returns-then-kind-ne1 : goal.returns-then-kind-ne1
-returns-then-kind-ne1 c = variable c.if-kind-ne1.true
+pub returns-then-not-is_functor : goal.returns-then-not-is_functor
+returns-then-not-is_functor c = variable (eqb-false _ _ (sym c.is_functor.ensures ∙ c.if-not-is_functor.true))
 
-pub returns-then-v-lt-NO_HEAD : goal.returns-then-v-lt-NO_HEAD
-returns-then-v-lt-NO_HEAD c = further c.if-kind-ne1.false c.if-v-lt-NO_HEAD.true
+pub returns-in-Some : goal.returns-in-Some
+returns-in-Some c = further _ (eqb-true _ _ (sym c.is_functor.ensures ∙ c.if-not-is_functor.false)) c.in-Some.is
 
-pub returns : goal.returns
-returns c = first c.if-kind-ne1.false c.if-v-lt-NO_HEAD.false
+pub returns-in-None : goal.returns-in-None
+returns-in-None c = first (eqb-true _ _ (sym c.is_functor.ensures ∙ c.if-not-is_functor.false)) c.in-None.is

@@ -1,32 +1,30 @@
 -- `store_arity::node_fits` meets its contract: by the head that the node meets.
-use mathlib.Core.Path.{refl}
 use Rattle.store_arity.proofs.HeadLaws.{heads_more, fits_alone, fits_head, fits_all}
-use borrow.Author.Rules.{rules}
 use Rattle.store_arity.proofs.node_fits.Goals as goal
 
-pub visit-v-requires : goal.visit-v-requires
-visit-v-requires c = (c.requires.1.size, search rules, search rules)
-
-pub returns-then-v-ge-NO_HEAD : goal.returns-then-v-ge-NO_HEAD
-returns-then-v-ge-NO_HEAD c =
-    let M = c.visit-v.ensures in
+pub returns-in_default : goal.returns-in_default
+returns-in_default c =
+    let M = c.visit.ensures in
+    let t = c.args.t.now in
     record {
-      symbol_heads = heads_more _ _ _ _ c.requires.0 c.requires.1 _ refl M;
-      fits_before = fits_alone _ _ _ _ c.requires.0 c.requires.1 c.args.arity.now refl M c.if-v-ge-NO_HEAD.true;
+      symbol_heads = heads_more t _ c.args.u c.requires.1 _ c.from.ensures M;
+      fits_before = fits_alone t _ c.args.u c.requires.1 c.from.ensures M c.in_default.is;
     }
 
-pub returns-then-symbols-w : goal.returns-then-symbols-w
-returns-then-symbols-w c =
-    let M = c.visit-v.ensures in
+pub returns-then-t-w : goal.returns-then-t-w
+returns-then-t-w c =
+    let M = c.visit.ensures in
+    let t = c.args.t.now in
     record {
-      symbol_heads = heads_more _ _ _ _ c.requires.0 c.requires.1 _ refl M;
-      fits_before = rw c.wide-w.ensures (fits_head _ _ _ _ c.requires.0 c.requires.1 c.args.arity.now refl M c.if-v-ge-NO_HEAD.false (rw c.wide-w.ensures at c.if-symbols-w.true) c.requires.2);
+      symbol_heads = heads_more t _ c.args.u c.requires.1 _ c.from.ensures M;
+      fits_before = rw c.from-w.ensures (fits_head t _ c.args.u c.requires.1 c.from.ensures M c.in-Some.v c.in-Some.is (rw c.from-w.ensures at c.if-t-w.true) c.requires.2);
     }
 
-pub returns : goal.returns
-returns c =
-    let M = c.visit-v.ensures in
+pub returns-else-t-w : goal.returns-else-t-w
+returns-else-t-w c =
+    let M = c.visit.ensures in
+    let t = c.args.t.now in
     record {
-      symbol_heads = heads_more _ _ _ _ c.requires.0 c.requires.1 _ refl M;
-      fits_before = fits_all _ _ _ _ c.requires.0 c.requires.1 c.args.arity.now refl M c.if-v-ge-NO_HEAD.false c.arity_fits.ensures;
+      symbol_heads = heads_more t _ c.args.u c.requires.1 _ c.from.ensures M;
+      fits_before = fits_all t _ c.args.u c.requires.1 c.from.ensures M c.in-Some.v c.in-Some.is c.arity_fits.ensures;
     }

@@ -7,21 +7,17 @@ use borrow.Author.Rules.{rules}
 use Rattle.store_arity.proofs.one_arity.Goals as goal
 
 pub loop-u-init : goal.loop-u-init
-loop-u-init c = (search rules, heads_none _ _, rule_none _ _ _)
-
-pub node_fits-requires : goal.node_fits-requires
-node_fits-requires c =
-    (search rules, c.loop-u.invariant.1, c.loop-u.invariant.2)
+loop-u-init c = let t = c.args.t.now in (heads_none t, rule_none t)
 
 pub returns-then-not-node_fits : goal.returns-then-not-node_fits
 returns-then-not-node_fits c =
     let f = c.node_fits in
-    rule_not _ _ _ _ _ f.result (search rules) c.if-not-node_fits.true f.ensures.fits_before
+    rule_not c.args.t.now _ _ f.result (search rules) c.if-not-node_fits.true f.ensures.fits_before
 
 pub loop-u-preserved : goal.loop-u-preserved
 loop-u-preserved c =
     let f = c.node_fits in
-    (search rules, f.ensures.symbol_heads, rule_more _ _ _ _ f.result c.loop-u.invariant.2 c.if-not-node_fits.false f.ensures.fits_before)
+    (f.ensures.symbol_heads, rule_more c.args.t.now _ f.result c.loop-u.invariant.1 c.if-not-node_fits.false f.ensures.fits_before)
 
 pub returns : goal.returns
-returns c = tells_at (ArityRule _ _ _) (tells_yes c.loop-u.invariant.2) (omega arith)
+returns c = tells_at (ArityRule c.args.t.now) (tells_yes c.loop-u.invariant.1) (omega arith)

@@ -1,19 +1,18 @@
 -- `store_shape::terms_shaped` meets its contract.
-use lib.ListN.{length}
-use Rattle.base.proofs.TellLaws.{tells_at}
-use Rattle.store_shape.specs.Rules.{ZeroFrom}
-use Rattle.store_shape.proofs.ShapeLaws.{tells_terms, terms_many}
+use Rattle.store_shape.proofs.RuleLaws.{zero_tells}
+use Rattle.store_shape.proofs.ShapeLaws.{tells_terms}
+use Prim.Native.Nat.{◌*◌}
 use native.Mathlib.Omega.{arith}
 use borrow.Author.Rules.{rules}
 use Rattle.store_shape.proofs.terms_shaped.Goals as goal
 
-pub returns-then-n-gt-NODES : goal.returns-then-n-gt-NODES
-returns-then-n-gt-NODES c =
-    let a = c.args in
-    terms_many a.n a.kind.now a.symbol.now a.arity.now a.child.now c.if-n-gt-NODES.true
-
 pub returns : goal.returns
 returns c =
-    let a = c.args in
-    tells_terms a.n a.kind.now a.symbol.now a.arity.now a.child.now (search rules) c.if-n-gt-NODES.false
-    c.nodes_ok-used.ensures (tells_at (λ k. ZeroFrom a.kind.now k (length a.kind.now)) c.zero_from.ensures (omega arith)) c.zero_wide_from.ensures c.zero_from-2.ensures c.zero_from-3.ensures c.one_arity.ensures
+    let t = c.args.t.now in
+    let n = c.if-n-gt-NODES.false in
+    tells_terms t (record { kinds = search rules; symbols = search rules; arities = search rules; children = search rules }) n c.nodes_ok-used.ensures
+    (zero_tells t.kind t.count 64 (search rules) n c.each_is.ensures)
+    (zero_tells t.symbol t.count 64 (search rules) n c.each_is-2.ensures)
+    (zero_tells t.arity t.count 64 (search rules) n c.each_is-3.ensures)
+    (zero_tells t.child (4 * t.count) 256 (search rules) (omega arith) c.each_is-4.ensures)
+    c.one_arity.ensures

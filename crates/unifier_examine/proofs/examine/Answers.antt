@@ -1,13 +1,13 @@
 -- `unifier_examine::examine` meets its contract.
-use borrow.Author.Rules.{rules}
-use Rattle.unifier_examine.proofs.ExamineLaws.{misshaped}
+use Rattle.std.proofs.Common.{rules}
+use Rattle.solve_closure.proofs.SettledLaws.{holds_state}
+use Rattle.unifier_examine.proofs.ExamineLaws.{solved, unsolved}
 use Rattle.unifier_examine.proofs.examine.Goals as goal
 
-pub solve-requires : goal.solve-requires
-solve-requires c = record { shape = c.shaped.ensures.holds c.if-shaped.true; trace_len = search rules }
+pub returns-in-Solved : goal.returns-in-Solved
+returns-in-Solved c =
+    solved _ _ (c.decide-o.ensures _ (holds_state _ _)) (search rules) c.in-Solved.is
 
-pub returns-then-shaped : goal.returns-then-shaped
-returns-then-shaped c = c.solve.ensures
-
-pub returns : goal.returns
-returns c = misshaped _ _ _ _ _ (c.shaped.ensures.fails c.if-shaped.false)
+pub returns-in-Clash : goal.returns-in-Clash
+returns-in-Clash c =
+    unsolved _ _ (c.decide-o.ensures _ (holds_state _ _)) c.in-Clash.is

@@ -1,5 +1,4 @@
 -- `write_below::arrive` meets its contract.
-use native.Mathlib.Omega.{arith}
 use Rattle.write_below.proofs.ChainLaws.{arrived_there, arrived}
 use Rattle.write_below.proofs.arrive.Goals as goal
 
@@ -7,5 +6,4 @@ pub returns-then-u-q : goal.returns-then-u-q
 returns-then-u-q c = arrived_there c.if-u-q.true
 
 pub returns : goal.returns
-returns c =
-    arrived c.link.ensures c.put_line.ensures (omega arith) (omega arith) (omega arith)
+returns c = arrived c.link-same.ensures c.transitivity.ensures c.put.ensures

@@ -1,29 +1,16 @@
 -- `write_needed::trim` meets its contract: after each turn what is kept joins all that the whole did.
-use native.Mathlib.Omega.{arith}
-use borrow.Author.Rules.{rules}
-use Rattle.write_needed.proofs.TrimLaws.{among_range, trimmed_none, trimmed_more}
+use Rattle.std.proofs.Common.{◌-◌, arith}
+use Rattle.write_needed.proofs.TrimLaws.{trimmed_none, trimmed_more, parts_in_range}
 use Rattle.write_needed.proofs.trim.Goals as goal
 
 pub loop-k-init : goal.loop-k-init
-loop-k-init c = (search rules, trimmed_none (search rules))
+loop-k-init c = trimmed_none c.as_slice.ensures c.both-kept.ensures c.len-k.ensures
 
-pub without-less-requires : goal.without-less-requires
-without-less-requires c =
-    omega (arith, c.loop-k.invariant.1.less, c.requires.steps_bound.0)
-
-pub joins-requires : goal.joins-requires
-joins-requires c =
-    let W = c.without-less.ensures in
-    let T = c.loop-k.invariant.1 in
-    let R = among_range T.among c.requires.steps_bound.1 in
-    record { trace_len = (W.size, (omega (arith, T.less, c.requires.steps_bound.0), among_range W R)); u_bound = c.requires.u_bound; by_index = c.requires.by_index }
+pub joins-requires-clause-in_range : goal.joins-requires-clause-in_range
+joins-requires-clause-in_range c =
+    parts_in_range c.as_slice-entries.result.now (c.loop-k.k - 1) c.loop-k.invariant.1 c.as_slice-entries.ensures c.requires.in_range
 
 pub loop-k-preserved-then-joins : goal.loop-k-preserved-then-joins
 loop-k-preserved-then-joins c =
-    (search rules, trimmed_more (omega (arith, c.requires.steps_bound.0)) c.loop-k.invariant.1 (omega arith) c.without-less.ensures (c.joins.ensures c.if-joins.true))
-
-pub loop-k-preserved : goal.loop-k-preserved
-loop-k-preserved c = (search rules, c.loop-k.invariant.1)
-
-pub returns : goal.returns
-returns c = c.loop-k.invariant.1
+    trimmed_more c.as_slice-entries.result.now (c.loop-k.k - 1) c.loop-k.invariant.1 c.as_slice-entries.ensures (omega (arith, c.loop-k.invariant.0))
+    c.both-less.ensures (c.joins.ensures c.if-joins.true)

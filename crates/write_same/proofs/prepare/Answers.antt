@@ -1,14 +1,13 @@
 -- `write_same::prepare` meets its contract.
-use native.Mathlib.Omega.{arith}
-use Rattle.write_needed.proofs.TrimLaws.{among_range}
+use Rattle.write_needed.specs.Entries.{InRange}
+use Rattle.write_needed.proofs.TrimLaws.{among_all}
 use Rattle.write_same.proofs.RetraceLaws.{prepared}
 use Rattle.write_same.proofs.prepare.Goals as goal
 
-pub replay-requires : goal.replay-requires
-replay-requires c =
-    let T = c.trim-needed.ensures in
-    record { n_bound = (c.requires.nodes_le_node_limit.0, (c.requires.nodes_le_node_limit.0, (omega (arith, T.less, c.requires.nodes_le_node_limit.1.0), omega (arith, c.start.ensures.kept.size, c.requires.nodes_le_node_limit.1.1)))); to_len = c.start.ensures.size; trace_len = (T.among.size, among_range T.among c.requires.trace_len.1) }
+pub replay-requires-clause-in_range : goal.replay-requires-clause-in_range
+replay-requires-clause-in_range c =
+    among_all (InRange c.args.t.now c.args.e.now) _ _ c.trim-needed.ensures.among c.requires.in_range
 
-pub returns : goal.returns
-returns c =
-    prepared c.requires.nodes_le_node_limit.1.0 c.trim-needed.ensures c.start.ensures c.replay.ensures
+pub returns-clause-prepared : goal.returns-clause-prepared
+returns-clause-prepared c =
+    prepared c.requires.room.1.0 c.trim-needed.ensures c.start-pen.ensures.started c.replay.ensures

@@ -1,9 +1,8 @@
 -- `store::Equations::put` meets its contract.
 use Rattle.store.proofs.PutEquationLaws.{puts_equation}
-use native.Mathlib.Omega.{arith}
 use borrow.Author.Rules.{rules}
 use Rattle.store.proofs.Equations.put.Goals as goal
 
 pub returns : goal.returns
 returns c =
-    puts_equation c.args.self c.args.name c.args.left c.args.right (record { names = search rules; lefts = search rules; rights = search rules }) c.requires _ _ _ (omega arith) (omega arith) (omega arith)
+    puts_equation c.args.self.now c.args.name c.args.left c.args.right (record { names = search rules; lefts = search rules; rights = search rules }) c.requires

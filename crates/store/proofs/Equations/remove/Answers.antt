@@ -1,13 +1,12 @@
 -- `store::Equations::remove` meets its contract.
-use Rattle.store.proofs.RemoveLaws.{gone, missing}
-use native.Mathlib.Omega.{arith}
+use borrow.Author.Rules.{rules}
+use Rattle.store.proofs.RemoveLaws.{removes, missing}
 use Rattle.store.proofs.Equations.remove.Goals as goal
 
-pub returns-then-k-n : goal.returns-then-k-n
-returns-then-k-n c =
-    rw (c.close_names.ensures, c.close_ends.ensures, c.close_ends-then-k-n.ensures)
-    (gone c.args.self c.args.name c.find-k.result c.find-k.ensures c.if-k-n.true _ _ _ (omega arith) (omega arith) (omega arith))
+pub returns-in_default : goal.returns-in_default
+returns-in_default c = missing c.args.self.now c.args.name c.args.self.now.count c.in_default.ensures (search rules)
 
-pub returns-else-k-n : goal.returns-else-k-n
-returns-else-k-n c =
-    missing c.args.self c.args.name c.find-k.result c.find-k.ensures c.if-k-n.false
+pub returns : goal.returns
+returns c =
+    rw (c.close.ensures, c.close-2.ensures, c.close-3.ensures)
+    (removes c.args.self.now c.args.name c.in-Some.k c.in-Some.ensures.0 c.in-Some.ensures.1)

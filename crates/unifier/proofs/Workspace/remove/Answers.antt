@@ -1,13 +1,19 @@
 -- `Workspace::remove` meets its contract.
-use mathlib.Core.Path.{sym, ◌∙◌}
-use Rattle.unifier.proofs.Laws.{gone, not_held}
+use Rattle.std.proofs.Common.{sym, ◌∙◌}
+use Rattle.unifier.proofs.Laws.{examined_well, solved_valid, gone, not_held}
 use Rattle.unifier.proofs.Workspace.remove.Goals as goal
 
-pub returns-then-r : goal.returns-then-r
-returns-then-r c =
-    let p = c.remove-r.ensures in
-    gone c.args.self c.args.name c.requires c.remove-r.result.equations (sym p.found ∙ c.if-r.true) p.held (p.shape _ c.requires.shape.equations)
+pub returns-then-remove : goal.returns-then-remove
+returns-then-remove c =
+    let w = c.args.self.now in
+    let v = solved_valid w _ _ (examined_well _ _ _ _ c.in_ok-examined.was c.examined.ensures) in
+    let p = c.remove.ensures in
+    gone w c.args.name v _ (sym p.found ∙ c.if-remove.true) p.held (p.shape _ v.shape.equations)
 
-pub returns : goal.returns
-returns c =
-    rw c.refuse.ensures (not_held c.args.self c.args.name c.requires (sym c.remove-r.ensures.found ∙ c.if-r.false))
+pub returns-else-remove : goal.returns-else-remove
+returns-else-remove c =
+    let w = c.args.self.now in
+    let v = solved_valid w _ _ (examined_well _ _ _ _ c.in_ok-examined.was c.examined.ensures) in
+    let p = c.remove.ensures in
+    let n = sym p.found ∙ c.if-remove.false in
+    rw (p.kept n) (not_held w c.args.name v n)

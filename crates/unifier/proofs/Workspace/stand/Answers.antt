@@ -1,28 +1,29 @@
--- `Workspace::stand` meets its contract: by cases on the standing.
-use Rattle.unifier.proofs.CompareLaws.{known, told_same, told_below, told_above, told_apart}
+-- `Workspace::stand` meets its contract.
+use Rattle.std.proofs.Common.{arith}
+use Rattle.unifier.proofs.Laws.{examined_well, solved_valid}
+use Rattle.unifier.proofs.CompareLaws.{refused_left, refused_right, known, told}
 use Rattle.unifier.proofs.Workspace.stand.Goals as goal
 
-pub stand-s-requires : goal.stand-s-requires
-stand-s-requires c =
+pub returns-then-n-from : goal.returns-then-n-from
+returns-then-n-from c =
     let a = c.args in
-    record { known = known a.self a.u a.v a.proof.now a.table a.trace.now a.steps c.requires; buffer_bytes_in_bounds = c.requires.room }
+    let s = examined_well _ _ _ _ c.in_ok-table.was c.examined.ensures in
+    refused_left a.self.now a.u a.v a.proof.now (solved_valid _ _ _ s) c.if-proof-lt-BUFFER.false (omega (arith, c.if-n-from.true, c.from.ensures))
 
-pub returns-in-Same : goal.returns-in-Same
-returns-in-Same c =
+pub returns-then-n-from-2 : goal.returns-then-n-from-2
+returns-then-n-from-2 c =
     let a = c.args in
-    told_same a.self a.u a.v a.proof.now a.table a.trace.now a.steps c.requires _ c.stand-s.result c.stand-s.ensures _ c.in-Same.is
+    let s = examined_well _ _ _ _ c.in_ok-table.was c.examined.ensures in
+    refused_right a.self.now a.u a.v a.proof.now (solved_valid _ _ _ s) c.if-proof-lt-BUFFER.false (omega (arith, c.if-n-from.false, c.from.ensures)) (omega (arith, c.if-n-from-2.true, c.from-2.ensures))
 
-pub returns-in-Below : goal.returns-in-Below
-returns-in-Below c =
+pub stand-s-requires-clause-known : goal.stand-s-requires-clause-known
+stand-s-requires-clause-known c =
     let a = c.args in
-    told_below a.self a.u a.v a.proof.now a.table a.trace.now a.steps c.requires _ c.stand-s.result c.stand-s.ensures _ c.in-Below.is
+    let s = examined_well _ _ _ _ c.in_ok-table.was c.examined.ensures in
+    known a.self.now a.u a.v a.proof.now _ _ s (omega (arith, c.if-n-from.false, c.from.ensures)) (omega (arith, c.if-n-from-2.false, c.from-2.ensures))
 
-pub returns-in-Above : goal.returns-in-Above
-returns-in-Above c =
+pub returns : goal.returns
+returns c =
     let a = c.args in
-    told_above a.self a.u a.v a.proof.now a.table a.trace.now a.steps c.requires _ c.stand-s.result c.stand-s.ensures _ c.in-Above.is
-
-pub returns-in-Apart : goal.returns-in-Apart
-returns-in-Apart c =
-    let a = c.args in
-    told_apart a.self a.u a.v a.proof.now a.table a.trace.now a.steps c.requires _ c.stand-s.result c.stand-s.ensures c.in-Apart.is
+    let s = examined_well _ _ _ _ c.in_ok-table.was c.examined.ensures in
+    told a.self.now a.u a.v a.proof.now _ _ s (omega (arith, c.if-n-from.false, c.from.ensures)) (omega (arith, c.if-n-from-2.false, c.from-2.ensures)) (omega (arith, c.if-proof-lt-BUFFER.false)) _ _ c.stand-s.ensures

@@ -1,9 +1,0 @@
--- `test_eqtrace_ways::input_end` meets its contract.
-use Rattle.std.proofs.Common.{◌-◌, ◌≤◌, length}
-use Rattle.test_eqtrace_ways.proofs.input_end.Given as goal
-
-abbrev pub invariant-loop-i : goal.invariant-loop-i
-invariant-loop-i l = (l.at ≤ l.i) × (l.i ≤ length l.all)
-
-abbrev pub decreases-loop-i : goal.decreases-loop-i
-decreases-loop-i l = length l.all - l.i

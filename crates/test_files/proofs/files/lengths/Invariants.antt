@@ -1,9 +1,0 @@
--- `test_files::files::lengths` is safe and ends.
-use Rattle.std.proofs.Common.{◌≡◌, ◌-◌, length}
-use Rattle.test_files.proofs.files.lengths.Given as goal
-
-abbrev pub invariant-loop-k : goal.invariant-loop-k
-invariant-loop-k g l = length l.file ≡ length l.initial.file
-
-abbrev pub decreases-loop-k : goal.decreases-loop-k
-decreases-loop-k g l = 9 - l.k

@@ -1,9 +1,0 @@
--- `test_tools::bytes::untouched` is safe and ends.
-use Rattle.std.proofs.Common.{◌-◌, length}
-use Rattle.test_tools.proofs.bytes.untouched.Given as goal
-
-abbrev pub invariant-loop-i : goal.invariant-loop-i
-invariant-loop-i l = Unit
-
-abbrev pub decreases-loop-i : goal.decreases-loop-i
-decreases-loop-i l = length l.s - l.i

@@ -1,0 +1,10 @@
+-- `write_below::way_up` meets its contract: `low` is the upper end of the way so far, and the levels left are fewer.
+use Rattle.std.proofs.Common.{◌-◌, length}
+use Rattle.write_below.specs.Steps.{OnTheWay}
+use Rattle.write_below.proofs.way_up.Given as goal
+
+abbrev pub invariant-loop-low : goal.invariant-loop-low
+invariant-loop-low l = OnTheWay l.table l.search l.v l.way l.low
+
+abbrev pub decreases-loop-low : goal.decreases-loop-low
+decreases-loop-low l = 64 - length l.way
