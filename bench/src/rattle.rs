@@ -30,14 +30,17 @@ pub struct Settled {
     pub clash: Option<(u8, u8)>,
 }
 
-pub fn close(t: &Terms, e: &Equations) -> Settled {
-    let (mut table, mut rows) = ([0; 64], [[0; 4]; 64]);
-    let r = unsafe { ffi_settle(&mut table, &mut rows, t, e) };
-    let clash = if r.clash { Some((r.left as u8, r.right as u8)) } else { None };
-    Settled { table, rows, steps: r.steps, clash }
-}
-
 impl Settled {
+    pub fn new() -> Settled {
+        Settled { table: [0; 64], rows: [[0; 4]; 64], steps: 0, clash: None }
+    }
+
+    fn close(&mut self, t: &Terms, e: &Equations) {
+        let r = unsafe { ffi_settle(&mut self.table, &mut self.rows, t, e) };
+        self.clash = if r.clash { Some((r.left as u8, r.right as u8)) } else { None };
+        self.steps = r.steps;
+    }
+
     // In the plain solver's form, to be held against it.
     pub fn plain(&self) -> Closure {
         let mut trace: Trace = [0; 64];
@@ -52,12 +55,12 @@ pub fn peel(t: &Terms, table: &Table, height: &mut Bytes) -> u8 {
     unsafe { ffi_peel(table, height, t) }
 }
 
-pub fn solve(t: &Terms, e: &Equations, height: &mut Bytes) -> (Settled, u8) {
-    let c = close(t, e);
-    let v = match c.clash {
+// The verdict; the rest is put where it is lent.
+pub fn solve(t: &Terms, e: &Equations, c: &mut Settled, height: &mut Bytes) -> u8 {
+    c.close(t, e);
+    match c.clash {
         Some(_) => 8,
         None if peel(t, &c.table, height) == 0 => 0,
         None => 9,
-    };
-    (c, v)
+    }
 }

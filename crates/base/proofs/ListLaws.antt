@@ -7,12 +7,11 @@ use Prim.Native.Nat.{ℕ, zero, suc, ◌<◌, zero-le, suc-le-suc}
 use native.Mathlib.Nat.{le_of_suc-le-suc, not-suc-le-zero}
 use native.Mathlib.Omega.{arith}
 use lib.ListN.{length, get_elem?, take}
-use Rattle.base.proofs.AbsurdLaws.{zero_is_one}
 
 module _ {A : Type 0} where
   -- what is found stands within the list
   pub found_lt : (l : List A) (i : ℕ) (a : A) → get_elem? l i ≡ some a → i < length l
-  found_lt [] i a h = zero_is_one cc
+  found_lt [] i a h = cc
   found_lt (x ∷ xs) zero a h = suc-le-suc zero-le
   found_lt (x ∷ xs) (suc i) a h = suc-le-suc (found_lt xs i a h)
 
@@ -38,7 +37,7 @@ module _ {A : Type 0} where
   -- what is found in a list with one element more
   pub found_snoc : (l : List A) (x : A) (i : ℕ) (a : A) → get_elem? (l ++ (x ∷ [])) i ≡ some a → (get_elem? l i ≡ some a) ⊎ ((i ≡ length l) × (x ≡ a))
   found_snoc [] x zero a h = inr (refl, cc)
-  found_snoc [] x (suc i) a h = zero_is_one cc
+  found_snoc [] x (suc i) a h = cc
   found_snoc (y ∷ l) x zero a h = inl h
   found_snoc (y ∷ l) x (suc i) a h = ⊎_elim (λ p. inl p) (λ p. inr (ap suc p.0, p.1)) (found_snoc l x i a h)
 

@@ -1,21 +1,18 @@
--- Replies that tell a fact: of comparisons, of two facts together, of one fact more.
-use mathlib.Core.Path.{◌≡◌, refl, sym}
+-- Replies that tell a fact: of comparisons, and of two facts together.
+use mathlib.Core.Path.{◌≡◌, refl}
 use mathlib.Core.Bool.{Bool, true, false, ◌&&◌}
-use mathlib.Core.Logic.{⊎_elim}
-use Prim.Native.Nat.{ℕ, ◌+◌, ◌≤◌, ◌<◌}
-use native.Mathlib.Nat.{not-suc-le-zero, le_of_suc-le-suc, eq-or-lt_of_le}
+use Prim.Native.Nat.{ℕ, ◌<◌}
 use native.Mathlib.Omega.{arith}
-use lib.Dec.{eqb, ltb, leb}
-use borrow.Author.Tests.{eqb-true, eqb-false, ltb-true, ltb-false, leb-true, leb-false}
-use Rattle.base.specs.Tells.{Tells, Each}
-use Rattle.base.proofs.AbsurdLaws.{true_is_false}
+use lib.Dec.{eqb, ltb}
+use borrow.Author.Tests.{eqb-true, eqb-false, ltb-true, ltb-false}
+use Rattle.base.specs.Tells.{Tells}
 
 module _ {P : Type 0} where
   pub tells_yes : P → Tells P true
-  tells_yes p = record { holds = λ e. p; fails = λ e q. true_is_false e }
+  tells_yes p = record { holds = λ e. p; fails = λ e q. cc }
 
   pub tells_not : (P → ⊥) → Tells P false
-  tells_not n = record { holds = λ e. true_is_false (sym e); fails = λ e. n }
+  tells_not n = record { holds = λ e. cc; fails = λ e. n }
 
   -- the same fact in other words
   pub tells_same : {Q : Type 0} {r : Bool} → (P → Q) → (Q → P) → Tells P r → Tells Q r
@@ -36,24 +33,6 @@ tells_eq a b = record { holds = eqb-true a b; fails = eqb-false a b }
 pub tells_lt : (a b : ℕ) → Tells (a < b) (ltb a b)
 tells_lt a b = record { holds = ltb-true a b; fails = λ e h. omega (arith, ltb-false a b e) }
 
-pub tells_le : (a b : ℕ) → Tells (a ≤ b) (leb a b)
-tells_le a b = record { holds = leb-true a b; fails = λ e h. omega (arith, leb-false a b e) }
-
 pub tells_both : {P Q : Type 0} {a b : Bool} → Tells P a → Tells Q b → Tells (P × Q) (a && b)
 tells_both {a = true} t u = record { holds = λ e. (t.holds refl, u.holds e); fails = λ e q. u.fails e q.1 }
-tells_both {a = false} t u = record { holds = λ e. true_is_false (sym e); fails = λ e q. t.fails refl q.0 }
-
--- ---- every number below n
-
-module _ (P : ℕ → Type 0) where
-  pub each_none : Each P 0
-  each_none i h = absurd (not-suc-le-zero h)
-
-  pub each_more : (i : ℕ) → Each P i → P i → Each P (i + 1)
-  each_more i h p j l = ⊎_elim (λ e. rw e p) (λ k. h j k) (eq-or-lt_of_le (le_of_suc-le-suc (omega (arith, l))))
-
-  pub tells_none : Tells (Each P 0) true
-  tells_none = tells_yes each_none
-
-  pub tells_more : (i : ℕ) {a b : Bool} → Tells (Each P i) a → Tells (P i) b → Tells (Each P (i + 1)) (a && b)
-  tells_more i t u = tells_same (λ q. each_more i q.0 q.1) (λ q. (λ j l. q j (omega arith), q i (omega arith))) (tells_both t u)
+tells_both {a = false} t u = record { holds = λ e. cc; fails = λ e q. t.fails refl q.0 }

@@ -1,4 +1,4 @@
-// The calls of `unifier`, their replies as three numbers: see `in_numbers`. None asks anything of its caller.
+// The calls of `unifier`, their replies as three numbers, since C has no enums with values: see `in_numbers`. None asks anything of its caller.
 ghost use Rattle.std.specs.Prelude.{◌≡◌};
 ghost use Rattle.std.proofs.Math.Option.{none};
 ghost use Rattle.graph.specs.State.{functor, equation_of};

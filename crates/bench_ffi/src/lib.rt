@@ -36,7 +36,7 @@ pub struct Ending {
     pub right: usize,
 }
 
-// An entry of the trace: 0 and an equation's place, or 1 and two nodes and a place.
+// An entry of the trace: 0 and an equation's place, or 1 and two nodes and a place. C has no enums with values.
 fn numbers_of(e: Entry) -> [u16; 4]
     ensures { result ≡ entry_numbers e }
 {
@@ -74,14 +74,14 @@ pub extern "C" fn ffi_settle(
     }
 }
 
-// A height as a number: 255 for none.
+// A height as a number: 255 for none, since C has no Option.
 fn height_as_number(h: Option<u8>) -> u8
     ensures { result ≡ height_number h }
 {
     h.unwrap_or(255)
 }
 
-// The heights of a table's classes, and how many classes have none.
+// The heights of a table's classes, and how many classes have none. Arrays, as C has them.
 #[unsafe(no_mangle)]
 pub extern "C" fn ffi_peel(table: &[u8; 64], height: &mut [u8; 64], t: &Terms) -> u8
     requires table { Table table.now }

@@ -37,14 +37,13 @@ use Rattle.refusals.specs.declared.Refusal.{Refusal}
 use Rattle.refusals.specs.declared.Refusal.TheVariants.{Clash, Cycle}
 use Rattle.refusals.proofs.NumberLaws.{proof_number, number_8, number_9}
 use Rattle.demands.specs.History.{Shown, ShownBeside, ShownBy, Offerable, OfferDecided, taken, clash, cycle}
-use Rattle.base.proofs.AbsurdLaws.{zero_is_one}
 
 -- only a refused call is answered with a refusal, and that leaves the lists
 accepted_not : (s : State) (c : book.Call) (j : ℕ) → book.refused j ≡ (book.accepted s c).reply → ⊥
-accepted_not s (book.declare n) j e = zero_is_one cc
-accepted_not s (book.equate x room) j e = zero_is_one cc
-accepted_not s (book.withdraw n) j e = zero_is_one cc
-accepted_not s book.clear j e = zero_is_one cc
+accepted_not s (book.declare n) j e = cc
+accepted_not s (book.equate x room) j e = cc
+accepted_not s (book.withdraw n) j e = cc
+accepted_not s book.clear j e = cc
 
 pub refused_is : (s : State) (c : book.Call) (j k : ℕ) → book.refused j ≡ (book.answer s c k).reply → (k ≡ j) × ((book.answer s c k).state ≡ s)
 refused_is s c j k = go (eqb k 0)
@@ -106,14 +105,14 @@ module _ (s : State) (e : Equation) (before after : List ℕ) where
   -- the reply of each verdict
   module _ (p : Past s e (length before)) where
     by_clash : (r : Result (Unit {0}) Refusal) → said is_held r ≡ book.refused 8 → Written (offered s e) before after r → (Solution (offered s e) → ⊥) → OfferDecided s e before after r
-    by_clash (Ok u) h w un = zero_is_one cc
+    by_clash (Ok u) h w un = cc
     by_clash (Err r) h w un = go (number_8 r cc) w
       where
         go : (n : ℕ) × (r ≡ Clash n) → Written (offered s e) before after (Err r) → OfferDecided s e before after (Err r)
         go (n, x) w = rw x (clash un (shown clash_goal n refl p (rw x at w)))
 
     by_cycle : (r : Result (Unit {0}) Refusal) → said is_held r ≡ book.refused 9 → Written (offered s e) before after r → (Solution (offered s e) → ⊥) → OfferDecided s e before after r
-    by_cycle (Ok u) h w un = zero_is_one cc
+    by_cycle (Ok u) h w un = cc
     by_cycle (Err r) h w un = go (number_9 r cc) w
       where
         go : (n : ℕ) × (r ≡ Cycle n) → Written (offered s e) before after (Err r) → OfferDecided s e before after (Err r)
@@ -121,7 +120,7 @@ module _ (s : State) (e : Equation) (before after : List ℕ) where
 
     by_none : (r : Result (Unit {0}) Refusal) → said is_held r ≡ book.held → Solution (offered s e) → OfferDecided s e before after r
     by_none (Ok u) h t = taken t
-    by_none (Err r) h t = zero_is_one cc
+    by_none (Err r) h t = cc
 
 -- none of 5, 4, 6, 7 refuses it
 ready : (s : State) (e : Equation) (lent : List ℕ) → Offerable s e lent → book.early s (book.equate e (length lent)) ≡ none

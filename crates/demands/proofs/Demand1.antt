@@ -48,7 +48,6 @@ use Rattle.proof_file.specs.Promises as files
 use Rattle.proof_shorter.proofs.ChoiceLaws.{chosen_as, choice_there, no_choice_there, choice_back}
 use Rattle.demands.proofs.Decides.{refused_is}
 use Rattle.demands.specs.Demand1.{Refuses, Away, Unchanged, bare, uncounted, uncounted_stance, OneReply, OneValue, Demand1}
-use Rattle.base.proofs.AbsurdLaws.{zero_is_one}
 
 -- ---- each reply is one value
 
@@ -177,10 +176,6 @@ early_withdrawn s n k = go (name_held n s.equations)
     go true e = inl e
     go false e = inr e
 
-no_fault : (k j : ℕ) → (0 ≡ j → ⊥) → (10 ≡ j → ⊥) → (k ≡ 0) ⊎ (k ≡ 10) → k ≡ j → ⊥
-no_fault k j n m (inl p) e = n (sym p ∙ e)
-no_fault k j n m (inr p) e = m (sym p ∙ e)
-
 stance_of : (s : State) (u v : ℕ) (before after : List ℕ) (r : Result Standing Refusal) → Answer s u v before after r
     → Stance s u v (Ok (stands.Same 0)) (Ok (stands.Below 0)) (Ok (stands.Above 0)) (Ok stands.Apart) (uncounted_stance r)
 stance_of s u v before after (Ok (stands.Same n)) (stance.same p a) = is_same p
@@ -215,13 +210,13 @@ module _ {A : Type 0} (says : A → book.BookReply) (w : Workspace) (ok : Valid 
 
 one_reply : (w : Workspace) → Valid w → OneReply w
 one_reply w ok = record {
-  declares = λ n r q P Q. one_outcome node_number w ok (book.declare n) r q P Q (λ a b e. cc) (λ a j e. zero_is_one cc)
+  declares = λ n r q P Q. one_outcome node_number w ok (book.declare n) r q P Q (λ a b e. cc) (λ a j e. cc)
       (λ k h. ⊎_elim (λ l. (λ e. omega (arith, e, l), λ e. omega (arith, e, l), λ e. omega (arith, e, l))) (λ l. (λ e. omega (arith, e, l), λ e. omega (arith, e, l), λ e. omega (arith, e, l)))
       (early_declared (state_of w) n k h));
   withdraws = λ n r q P Q.
-      one_outcome is_gone w ok (book.withdraw n) r q P Q (λ a b e. refl) (λ a j e. zero_is_one cc)
+      one_outcome is_gone w ok (book.withdraw n) r q P Q (λ a b e. refl) (λ a j e. cc)
       (λ k h. let l = early_withdrawn (state_of w) n k h in
-      (no_fault k 8 (λ z. omega (arith, z)) (λ z. omega (arith, z)) l, no_fault k 9 (λ z. omega (arith, z)) (λ z. omega (arith, z)) l, no_fault k 12 (λ z. omega (arith, z)) (λ z. omega (arith, z)) l));
+      (λ e. omega arith, λ e. omega arith, λ e. omega arith));
   equates = λ e before after left r q P Q.
       let c = book.equate e (length before) in (
         offered_reply (offered (state_of w) e) before after r.reply P.written ∙ ap offer_said (one_said is_held w ok c r q P.answers Q.answers) ∙ sym (offered_reply (offered (state_of w) e) before left q.reply Q.written),

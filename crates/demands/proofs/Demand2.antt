@@ -1,5 +1,5 @@
 -- Demand 2 about the calls, from their contracts.
-use mathlib.Core.Path.{◌≡◌, refl, sym, ap, ◌∙◌}
+use mathlib.Core.Path.{◌≡◌, sym, ap, ◌∙◌}
 use mathlib.Core.Bool.{Bool, true, false, ◌&&◌, cond}
 use mathlib.Core.List.{List}
 use mathlib.Core.Option.{Option, none, some}
@@ -30,7 +30,6 @@ use Rattle.unifier.specs.declared.Workspace.{Workspace}
 use Rattle.unifier_respond.specs.declared.Standing.{Standing}
 use Rattle.unifier_respond.specs.declared.Standing.TheVariants as says
 use Rattle.demands.specs.Demand2.{PassesCheck, Reports, Demand2}
-use Rattle.base.proofs.AbsurdLaws.{zero_is_one}
 
 -- a call that isn't refused
 record Known (s : State) (u v size : ℕ) : Type 0 where
@@ -44,10 +43,7 @@ known s u v room h =
     record { room = ltb-false room buffer_bytes p.0; left = p.1; right = p.2 }
   where
     go : (x y z : Bool) → cond {A = Option ℕ} x (some 5) (cond (y && z) none (some 4)) ≡ none → (x ≡ false) × (y ≡ true) × (z ≡ true)
-    go true y z q = absurd (let t : ◌≡◌ {A = ℕ} 0 1 = cc in omega arith)
-    go false false z q = absurd (let t : ◌≡◌ {A = ℕ} 0 1 = cc in omega arith)
-    go false true false q = absurd (let t : ◌≡◌ {A = ℕ} 0 1 = cc in omega arith)
-    go false true true q = (refl, refl, refl)
+    go x y z q = grind arith
 
 -- with nothing offered, the checker's own answer
 unoffered : (s : State) (g : Goal) (bytes : List ℕ) → goal_below (length s.nodes) g ≡ true → check_reply s none g bytes ≡ answer_to s g bytes
@@ -98,8 +94,8 @@ answered s o g bytes h = go (offer_below (length s.nodes) o && goal_below (lengt
   where
     go : (b c : Bool) → passed ≡ cond b (cond c (answer_to (with_offer s o) g bytes) (refused 6)) (refused 4) → answer_to (with_offer s o) g bytes ≡ passed
     go true true q = sym q
-    go true false q = zero_is_one cc
-    go false c q = zero_is_one cc
+    go true false q = cc
+    go false c q = cc
 
 pub demand2 : Demand2
 demand2 = record {

@@ -3,20 +3,18 @@ use mathlib.Core.Bool.{Bool, true, false, cond}
 use lib.Dec.{ltb}
 use mathlib.Core.Path.{◌≡◌, refl, sym, ap, ap₂, ◌∙◌}
 use mathlib.Core.List.{List, [], ◌∷◌, ◌++◌, append_assoc, append-nil}
-use Prim.Native.Nat.{ℕ, zero, suc, ◌+◌, ◌*◌, ◌/◌, ◌%◌, ◌≤◌, ◌<◌}
+use Prim.Native.Nat.{ℕ, zero, suc, ◌+◌, ◌-◌, ◌*◌, ◌/◌, ◌%◌, ◌≤◌, ◌<◌}
 use native.Mathlib.Numerals.{add-one}
 use native.Mathlib.Omega.{arith}
 use lib.ListN.{length, get_or, take, drop, length-append, length-drop, take-append-drop}
 use lib.Seq.{length-take-le, take_at, drop-append-add, drop-drop, take-suc}
 use Rattle.eqtrace_answers.specs.Text.{decimal_by, decimal, spaced, text_of}
-use Rattle.eqtrace_answers.specs.Puts.{pasted, Puts, letters, numbers, meant, Small}
+use Rattle.eqtrace_answers.specs.Puts.{pasted, Puts, Adds, letters, numbers, meant, Small}
 use Rattle.eqtrace_answers.specs.declared.Answer.{Answer}
+use Rattle.eqtrace_answers.specs.declared.Draft.{Draft}
 use Rattle.eqtrace_answers.specs.declared.Answer.TheVariants as says
 
 module _ (l : List ℕ) (at : ℕ) where
-  pub pasted_none : pasted l at [] ≡ l
-  pasted_none = let e : at + 0 ≡ at = omega arith in ap (λ (k : ℕ). take at l ++ drop k l) e ∙ take-append-drop at l
-
   pub length_pasted : (xs : List ℕ) → at + length xs ≤ length l → length (pasted l at xs) ≡ length l
   length_pasted xs h =
       omega (arith, length-append (take at l) (xs ++ drop (at + length xs) l), length-append xs (drop (at + length xs) l), length-drop (at + length xs) l, length-take-le at l (omega arith))
@@ -48,19 +46,41 @@ module _ (a b d : List ℕ) (at m e : ℕ) (xs ys : List ℕ) where
 pub puts_length : (a : List ℕ) (at : ℕ) (xs b : List ℕ) (m : ℕ) → at + length xs ≤ length a → Puts a at xs b m → length b ≡ length a
 puts_length a at xs b m h p = ap length p.written ∙ length_pasted a at xs h
 
-pub puts_bytes : (a : List ℕ) (at : ℕ) (xs ys b : List ℕ) (m : ℕ) → xs ≡ ys → Puts a at xs b m → Puts a at ys b m
-puts_bytes a at xs ys b m e p = rw (← e) p
+-- ---- a reply's text so far
 
-pub puts_as : (a b : List ℕ) (at e : ℕ) {xs ys zs : List ℕ} → xs ≡ ys → ys ≡ zs → Puts a at xs b e → Puts a at zs b e
-puts_as a b at e {xs = xs} {zs = zs} p q h = puts_bytes a at xs zs b e (p ∙ q) h
+pub adds_put : {d e : Draft} (bytes part : List ℕ) → part ≡ bytes → d.at + length bytes ≤ length d.out.now → e.out.ghost_name ≡ d.out.ghost_name
+    → e.at ≡ d.at + length bytes → e.out.now ≡ take d.at d.out.now ++ (part ++ drop (d.at + length bytes - d.at) (drop d.at d.out.now)) → Adds d bytes e
+adds_put {d} {e} bytes part q h r m w =
+    let k : d.at + (d.at + length bytes - d.at) ≡ d.at + length bytes = omega arith in
+    let p : Puts d.out.now d.at bytes e.out.now e.at = record {
+      end = m;
+      written = w ∙ ap₂ (λ (l r : List ℕ). take d.at d.out.now ++ (l ++ r)) q (drop-drop (d.at + length bytes - d.at) d.at d.out.now ∙ ap (λ (n : ℕ). drop n d.out.now) k);
+    } in
+    record { same_reference = r; size = puts_length d.out.now d.at bytes e.out.now e.at h p; puts = p }
 
-pub puts_spaced : (a b d : List ℕ) (at e : ℕ) (n : ℕ) {m : ℕ} → at ≤ length a → Puts a at (32 ∷ []) b m → Puts b m (decimal n) d e → Puts a at (spaced (n ∷ [])) d e
-puts_spaced a b d at e n {m} h p q =
-    puts_bytes a at ((32 ∷ []) ++ decimal n) (spaced (n ∷ [])) d e (ap (λ (l : List ℕ). 32 ∷ l) (sym (append-nil (decimal n)))) (puts_then a b d at m e (32 ∷ []) (decimal n) h p q)
+pub adds_nothing : (d : Draft) → d.at ≤ length d.out.now → Adds d [] d
+adds_nothing d h =
+    let z : d.at + 0 ≡ d.at = omega arith in
+    record { same_reference = refl; size = refl; puts = record { end = omega arith; written = rw z (sym (take-append-drop d.at d.out.now)) } }
+
+pub adds_bytes : {d e : Draft} (xs ys : List ℕ) → xs ≡ ys → Adds d xs e → Adds d ys e
+adds_bytes xs ys q p = rw (← q) p
+
+-- one part after the other
+pub adds_then : {d e f : Draft} (xs ys : List ℕ) → d.at ≤ length d.out.now → Adds d xs e → Adds e ys f → Adds d (xs ++ ys) f
+adds_then {d} {e} {f} xs ys h p q = record {
+  same_reference = q.same_reference ∙ p.same_reference;
+  size = q.size ∙ p.size;
+  puts = puts_then d.out.now e.out.now f.out.now d.at e.at f.at xs ys h p.puts q.puts;
+}
+
+pub adds_spaced : {d e f : Draft} (n : ℕ) (digits : List ℕ) → digits ≡ decimal n → d.at ≤ length d.out.now → Adds d (32 ∷ []) e → Adds e digits f → Adds d (spaced (n ∷ [])) f
+adds_spaced n digits k h p q =
+    adds_bytes ((32 ∷ []) ++ digits) (spaced (n ∷ [])) (ap (λ (l : List ℕ). 32 ∷ l) (k ∙ sym (append-nil (decimal n)))) (adds_then (32 ∷ []) digits h p q)
 
 -- ---- spaced numbers
 
-pub decimal_length : (k x : ℕ) → length (decimal_by k x) ≤ k + 1
+decimal_length : (k x : ℕ) → length (decimal_by k x) ≤ k + 1
 decimal_length zero x = omega arith
 decimal_length (suc k) x = go (ltb x 10) (decimal_length k (x / 10))
   where
@@ -68,51 +88,45 @@ decimal_length (suc k) x = go (ltb x 10) (decimal_length k (x / 10))
     go true h = omega arith
     go false h = omega (arith, length-append (decimal_by k (x / 10)) ((48 + x % 10) ∷ []))
 
+pub number_length : (x : ℕ) → length (decimal x) ≤ 5
+unfolding decimal
+number_length x = decimal_length 4 x
+
 pub spaced_append : (xs ys : List ℕ) → spaced (xs ++ ys) ≡ spaced xs ++ spaced ys
 spaced_append [] ys = refl
 spaced_append (x ∷ xs) ys = ap (λ (l : List ℕ). 32 ∷ (decimal x ++ l)) (spaced_append xs ys) ∙ sym (append_assoc (32 ∷ decimal x) (spaced xs) (spaced ys))
 
 pub spaced_length : (xs : List ℕ) → length (spaced xs) ≤ 6 * length xs
-unfolding decimal
 spaced_length [] = omega arith
-spaced_length (x ∷ xs) = omega (arith, spaced_length xs, length-append (32 ∷ decimal x) (spaced xs), decimal_length 4 x)
+spaced_length (x ∷ xs) = omega (arith, spaced_length xs, length-append (32 ∷ decimal x) (spaced xs), number_length x)
 
--- the first j names are put
-pub record Listing (l : List ℕ) (at : ℕ) (names : List ℕ) (j : ℕ) (out : List ℕ) (e : ℕ) : Type 0 where
-  pub room : at + 6 * length names ≤ length l
-  pub puts : Puts l at (spaced (take j names)) out e
-  pub before : e ≤ at + 6 * j
-  pub size : length out ≡ length l
+-- the first j names are added
+pub record Listing (d : Draft) (names : List ℕ) (j : ℕ) (e : Draft) : Type 0 where
+  pub room : d.at + 6 * length names ≤ length d.out.now
+  pub adds : Adds d (spaced (take j names)) e
+  pub before : e.at ≤ d.at + 6 * j
 
-module _ (l : List ℕ) (at : ℕ) (names : List ℕ) where
-  module _ (j : ℕ) (out : List ℕ) (e : ℕ) (r : Listing l at names j out e) where
-    pub listing_more : j < length names → (x : ℕ) → x ≡ get_or names j 0 → (more : List ℕ) (f : ℕ) → Puts out e (spaced (x ∷ [])) more f → Listing l at names (j + 1) more f
-    listing_more h x q more f p =
+module _ (d : Draft) (names : List ℕ) where
+  pub listing_none : d.at + 6 * length names ≤ length d.out.now → Listing d names 0 d
+  listing_none h = record { room = h; adds = adds_nothing d (omega arith); before = omega arith }
+
+  module _ (j : ℕ) (e : Draft) (r : Listing d names j e) where
+    pub listing_more : j < length names → (x : ℕ) → x ≡ get_or names j 0 → (f : Draft) → Adds e (spaced (x ∷ [])) f → Listing d names (j + 1) f
+    listing_more h x q f p =
         let t : take (j + 1) names ≡ take j names ++ (x ∷ []) = rw (add-one, q) (take-suc names j 0 h) in
         let s : spaced (take j names) ++ spaced (x ∷ []) ≡ spaced (take (j + 1) names) = sym (ap spaced t ∙ spaced_append (take j names) (x ∷ [])) in
-        let u : Puts l at (spaced (take (j + 1) names)) more f = puts_bytes l at _ _ more f s (puts_then l out more at e f (spaced (take j names)) (spaced (x ∷ [])) (omega (arith, r.room)) r.puts p) in
+        let u : Adds d (spaced (take (j + 1) names)) f = adds_bytes _ _ s (adds_then (spaced (take j names)) (spaced (x ∷ [])) (omega (arith, r.room)) r.adds p) in
         let m : length (take (j + 1) names) ≡ j + 1 = length-take-le (j + 1) names (omega arith) in
-        let b : f ≤ at + 6 * (j + 1) = omega (arith, u.end, spaced_length (take (j + 1) names), m) in
-        record {
-          room = r.room;
-          puts = u;
-          before = b;
-          size = puts_length l at (spaced (take (j + 1) names)) more f (omega (arith, u.end, b, r.room)) u;
-        }
-
--- a word, spaced numbers, and the line break
-pub puts_line : (a b d f : List ℕ) (m e g : ℕ) (word xs : List ℕ) → Puts a 0 word b m → Puts b m xs d e → Puts d e (10 ∷ []) f g → Puts a 0 (word ++ xs ++ (10 ∷ [])) f g
-puts_line a b d f m e g word xs p q r =
-    puts_then a d f 0 e g (word ++ xs) (10 ∷ []) (omega arith) (puts_then a b d 0 m e word xs (omega arith) p q) r
+        record { room = r.room; adds = u; before = omega (arith, u.puts.end, spaced_length (take (j + 1) names), m) }
 
 -- a number y, and numbers after it
-pub puts_headed : (a b d : List ℕ) (at m e : ℕ) (x y : ℕ) (ns : List ℕ) → x ≡ y → at ≤ length a → Puts a at (spaced (x ∷ [])) b m → Puts b m (spaced ns) d e → Puts a at (spaced (y ∷ ns)) d e
-puts_headed a b d at m e x y ns q h p r =
-    puts_bytes a at _ _ d e (sym (spaced_append (x ∷ []) ns) ∙ ap (λ (z : ℕ). spaced (z ∷ ns)) q) (puts_then a b d at m e (spaced (x ∷ [])) (spaced ns) h p r)
+pub adds_headed : {d e f : Draft} (x y : ℕ) (ns : List ℕ) → x ≡ y → d.at ≤ length d.out.now → Adds d (spaced (x ∷ [])) e → Adds e (spaced ns) f → Adds d (spaced (y ∷ ns)) f
+adds_headed x y ns q h p r =
+    adds_bytes _ _ (sym (spaced_append (x ∷ []) ns) ∙ ap (λ (z : ℕ). spaced (z ∷ ns)) q) (adds_then (spaced (x ∷ [])) (spaced ns) h p r)
 
 -- how far a number goes
-pub end_one : (x : ℕ) {a b : List ℕ} {at e : ℕ} → Puts a at (spaced (x ∷ [])) b e → e ≤ at + 6
-end_one x p = omega (arith, p.end, spaced_length (x ∷ []))
+pub end_one : (x : ℕ) {d e : Draft} → Adds d (spaced (x ∷ [])) e → e.at ≤ d.at + 6
+end_one x p = omega (arith, p.puts.end, spaced_length (x ∷ []))
 
 -- ---- answers
 
@@ -127,6 +141,15 @@ spelled says.Above ns = refl
 spelled says.Apart ns = refl
 spelled (says.Refused k) ns = refl
 spelled (says.Unreadable i) ns = refl
+
+-- from the first place on, a word, the numbers and the line break
+pub says_line : (a : Answer) (ns word : List ℕ) {d e f g : Draft} {out : List ℕ} → word ≡ letters a → d.at ≡ 0
+    → Adds d word e → Adds e (spaced (numbers a ns)) f → Adds f (10 ∷ []) g → out ≡ g.out.now → Puts d.out.now 0 (text_of (meant a ns)) out g.at
+says_line a ns word {d} {e} {f} {g} {out} l z p q r o =
+    let s : Adds d (letters a ++ spaced (numbers a ns) ++ (10 ∷ [])) g =
+    adds_then (letters a ++ spaced (numbers a ns)) (10 ∷ []) (omega (arith, z)) (adds_then (letters a) (spaced (numbers a ns)) (omega (arith, z)) (rw l at p) q) r in
+    let t : Puts d.out.now d.at (text_of (meant a ns)) g.out.now g.at = rw (spelled a ns) s.puts in
+    rw (o, ← z) t
 
 pub small_number : (a : Answer) (i : ℕ) → a ≡ says.Unreadable i → Small a → i < 100000
 small_number a i q h = rw q at h

@@ -1,6 +1,7 @@
 -- Bytes put into a lent buffer.
 --   pasted        the buffer with bytes from a place on, and every other byte as it was
 --   Puts          bytes were put there; the reply is the place after them
+--   Adds          the same of a reply's text so far: they were put in the same buffer, which is as long as before
 --   meant         an answer with the names cited beside it
 --   letters       the word that its line begins with
 --   numbers       the numbers after the word: its own, and the names where it cites some
@@ -12,6 +13,7 @@ use Rattle.refusals.specs.Numbers.{refusal_number}
 use Rattle.eqtrace_answers.specs.Text.{Output, node, held, gone, same, below, above, apart, refused, unreadable, text_of}
 use Rattle.eqtrace_answers.specs.declared.Answer.{Answer as Spoken}
 use Rattle.eqtrace_answers.specs.declared.Answer.TheVariants as says
+use Rattle.eqtrace_answers.specs.declared.Draft.{Draft}
 
 abbrev pub pasted : List ℕ → ℕ → List ℕ → List ℕ
 pasted before at bytes = take at before ++ (bytes ++ drop (at + length bytes) before)
@@ -19,6 +21,11 @@ pasted before at bytes = take at before ++ (bytes ++ drop (at + length bytes) be
 pub record Puts (before : List ℕ) (at : ℕ) (bytes after : List ℕ) (next : ℕ) : Type 0 where
   pub end : next ≡ at + length bytes
   pub written : after ≡ pasted before at bytes
+
+pub record Adds (d : Draft) (bytes : List ℕ) (e : Draft) : Type 0 where
+  pub same_reference : e.out.ghost_name ≡ d.out.ghost_name
+  pub size : length e.out.now ≡ length d.out.now
+  pub puts : Puts d.out.now d.at bytes e.out.now e.at
 
 abbrev pub meant : Spoken → List ℕ → Output
 meant (says.Node i) ns = node i

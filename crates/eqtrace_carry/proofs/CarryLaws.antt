@@ -13,7 +13,7 @@ use native.Mathlib.Omega.{arith}
 use lib.ListN.{length, take}
 use Rattle.graph.specs.State.{State, Equation, offered}
 use Rattle.graph.specs.Goals.{Goal}
-use Rattle.base.proofs.BoolLaws.{and_left, and_right}
+use Rattle.std.proofs.lemmas.Bool.{and_parts}
 use Rattle.graph.specs.Lines.{Line}
 use Rattle.graph.specs.Book as book
 use Rattle.proof_lines.specs.Codec.{lines_of}
@@ -35,7 +35,7 @@ use Rattle.eqtrace_answers.specs.Puts.{meant}
 use Rattle.eqtrace_answers.specs.declared.Answer.{Answer as Code}
 use Rattle.eqtrace_answers.specs.declared.Answer.TheVariants as code
 use Rattle.eqtrace_carry.specs.Carried.{plainly, SpokenBeside, Spoken, Stated, Called, Offered, Does, Carries}
-use Rattle.eqtrace_carry.specs.Inner.{brought_lines, stance_lines, stance_answered, Means, CitesIn, Telling, Replying}
+use Rattle.eqtrace_carry.specs.Inner.{brought_lines, stance_lines, stance_answered, Means, CitesIn, Telling}
 use Rattle.eqtrace_carry.specs.declared.Carried.{Carried}
 
 -- ---- cited names
@@ -49,21 +49,14 @@ cites_some n bytes cited z h c f = record {
 
 -- ---- a call without a proof
 
-module _ {A : Type 0} (tells : A → book.BookReply) (says : A → Output) (w : Workspace) (c : book.Call) (o : Outcome A) (old new : List ℕ) (r : Carried)
-    (P : Answers tells w c o) (R : Replying o says old new r) (proof : List ℕ) where
-  pub called : Called tells says w c proof proof (plainly says o.reply) r.workspace
-  called = record { outcome = o; answers = P; said = refl; workspace = R.workspace; kept = refl }
+module _ {A : Type 0} (tells : A → book.BookReply) (says : A → Output) (w : Workspace) (c : book.Call) (o : Outcome A) (P : Answers tells w c o) (a : Code)
+    (m : meant a [] ≡ plainly says o.reply) {old new : List ℕ} {r : Carried} (T : Telling o.workspace a [] old new r) (proof : List ℕ) where
+  called : Called tells says w c proof proof (plainly says o.reply) r.workspace
+  called = record { outcome = o; answers = P; said = refl; workspace = T.workspace; kept = refl }
 
   pub carries : (i : ℕ) (t : Option Order) → (Called tells says w c proof proof (plainly says o.reply) r.workspace → Does w i t proof proof (plainly says o.reply) r.workspace)
       → Carries w i t proof proof old new r
-  carries i t k = record { answer = plainly says o.reply; does = k called; says = R.says; refused_is = R.refused_is }
-
--- what is told of a reply q without names
-pub replying : {A : Type 0} (o : Outcome A) (says : A → Output) (q : Result A Refusal) (a : Code) {bytes old new : List ℕ} {r : Carried} → o.reply ≡ q → meant a [] ≡ plainly says q
-    → Telling o.workspace a 0 bytes old new r → Replying o says old new r
-replying o says q a e h t =
-    let m : meant a t.names ≡ plainly says o.reply = ap (meant a) (t.none refl) ∙ h ∙ ap (plainly says) (sym e) in
-    record { says = rw (← m) t.says; refused_is = rw (← m) t.refused_is; workspace = t.workspace }
+  carries i t k = record { answer = plainly says o.reply; does = k called; says = rw (← m) T.says; refused_is = rw (← m) T.refused_is }
 
 -- ---- an offered equation
 
@@ -81,25 +74,26 @@ module _ (w : Workspace) (e : Equation) (before after : List ℕ) (o : Outcome (
 
   module _ {old new : List ℕ} {r : Carried} (t : Option Order) (i : ℕ)
       (f : (b : Output) → Offered w e before after b r.workspace → Does w i t before after b r.workspace) where
-    carried : (a : Code) (n : ℕ) (T : Telling o.workspace a n after old new r) → Spoken e.name after o.reply (meant a T.names) → Carries w i t before after old new r
-    carried a n T h = record {
-      answer = meant a T.names;
-      does = f (meant a T.names) (record { outcome = o; equates = q; said = h; workspace = T.workspace });
+    carried : (a : Code) (names : List ℕ) (T : Telling o.workspace a names old new r) → Spoken e.name after o.reply (meant a names) → Carries w i t before after old new r
+    carried a names T h = record {
+      answer = meant a names;
+      does = f (meant a names) (record { outcome = o; equates = q; said = h; workspace = T.workspace });
       says = T.says;
       refused_is = T.refused_is;
     }
 
-    pub offer_held : o.reply ≡ Ok tt → Telling o.workspace (code.Held e.name) 0 after old new r → Carries w i t before after old new r
-    offer_held x T = carried (code.Held e.name) 0 T (rw x refl)
+    pub offer_held : o.reply ≡ Ok tt → Telling o.workspace (code.Held e.name) [] old new r → Carries w i t before after old new r
+    offer_held x T = carried (code.Held e.name) [] T (rw x refl)
 
-    pub offer_refused : (k : Refusal) → o.reply ≡ Err k → Telling o.workspace (code.Refused k) (brought_lines (brings k)) after old new r → Carries w i t before after old new r
-    offer_refused k x T = carried (code.Refused k) (brought_lines (brings k)) T (rw x (go (brings k) (beside k x) T))
+    pub offer_refused : (k : Refusal) → o.reply ≡ Err k → (n : ℕ) → n ≡ brought_lines (brings k) → (names : List ℕ) → CitesIn n after names → Telling o.workspace (code.Refused k) names old new r
+        → Carries w i t before after old new r
+    offer_refused k x n z names C T = carried (code.Refused k) names T (rw x (go (brings k) (beside k x) (rw z at C)))
       where
-        go : (b : Brought) → LeftBehind (offered (state_of w) e) before after (refusal_number k) b → (T : Telling o.workspace (code.Refused k) (brought_lines b) after old new r)
-            → SpokenBeside after (refusal_number k) b (refused (refusal_number k) T.names)
-        go nothing h T = ap (refused (refusal_number k)) (T.none refl)
-        go (proof n) h T = record { names = T.names; cited = T.some h.some; answer = refl }
-        go (place n) h T = absurd h
+        go : (b : Brought) → LeftBehind (offered (state_of w) e) before after (refusal_number k) b → CitesIn (brought_lines b) after names
+            → SpokenBeside after (refusal_number k) b (refused (refusal_number k) names)
+        go nothing h C = ap (refused (refusal_number k)) (C.none refl)
+        go (proof n) h C = record { names = names; cited = C.some h.some; answer = refl }
+        go (place n) h C = absurd h
 
 -- ---- a query
 
@@ -112,10 +106,10 @@ counted (Ok stands.Apart) = true
 counted (Err k) = true
 
 some_lines : (n : ℕ) → leb 1 n && leb n 8192 ≡ true → 1 ≤ n
-some_lines n h = leb-true 1 n (and_left (leb 1 n) (leb n 8192) h)
+some_lines n h = leb-true 1 n (and_parts _ _ h).0
 
 few_lines : (n : ℕ) → leb 1 n && leb n 8192 ≡ true → n ≤ 8192
-few_lines n h = leb-true n 8192 (and_right (leb 1 n) (leb n 8192) h)
+few_lines n h = leb-true n 8192 (and_parts _ _ h).1
 
 module _ (w : Workspace) (x y : ℕ) (before after : List ℕ) where
   proof_counted : {s : State} {g : Goal} (n : ℕ) → ProofIn s g n before after → leb 1 n && leb n 8192 ≡ true
@@ -156,23 +150,23 @@ module _ (w : Workspace) (x y : ℕ) (before after : List ℕ) where
         go stands.Apart h = omega arith
 
     module _ {old new : List ℕ} {r : Carried} (i : ℕ) where
-      carried_query : (a : Code) (n : ℕ) (T : Telling o.workspace a n after old new r) → Stated after o.reply (meant a T.names) → Carries w i (some (order.query x y)) before after old new r
-      carried_query a n T h = record {
-        answer = meant a T.names;
+      carried_query : (a : Code) (names : List ℕ) (T : Telling o.workspace a names old new r) → Stated after o.reply (meant a names) → Carries w i (some (order.query x y)) before after old new r
+      carried_query a names T h = record {
+        answer = meant a names;
         does = record { compared = o; compares = q; said = h; workspace = T.workspace };
         says = T.says;
         refused_is = T.refused_is;
       }
 
-      pub query_stands : (s : Standing) (a : Code) → o.reply ≡ Ok s → Means (stance_answered s) a → (n : ℕ) → n ≡ stance_lines s → Telling o.workspace a n after old new r
+      pub query_stands : (s : Standing) (a : Code) → o.reply ≡ Ok s → Means (stance_answered s) a → (n : ℕ) → n ≡ stance_lines s → (names : List ℕ) → CitesIn n after names → Telling o.workspace a names old new r
           → Carries w i (some (order.query x y)) before after old new r
-      query_stands s a e m n z T = let t = rw z at T in carried_query a (stance_lines s) t (rw e (go s m (counted_as s e) t))
+      query_stands s a e m n z names C T = carried_query a names T (rw e (go s m (counted_as s e) (rw z at C)))
         where
-          go : (s : Standing) → Means (stance_answered s) a → counted (Ok s) ≡ true → (T : Telling o.workspace a (stance_lines s) after old new r) → Stated after (Ok s) (meant a T.names)
-          go (stands.Same n) m h T = record { names = T.names; cited = T.some (some_lines n h); answer = m.means T.names }
-          go (stands.Below n) m h T = record { names = T.names; cited = T.some (some_lines n h); answer = m.means T.names }
-          go (stands.Above n) m h T = record { names = T.names; cited = T.some (some_lines n h); answer = m.means T.names }
-          go stands.Apart m h T = m.means T.names
+          go : (s : Standing) → Means (stance_answered s) a → counted (Ok s) ≡ true → CitesIn (stance_lines s) after names → Stated after (Ok s) (meant a names)
+          go (stands.Same n) m h C = record { names = names; cited = C.some (some_lines n h); answer = m.means names }
+          go (stands.Below n) m h C = record { names = names; cited = C.some (some_lines n h); answer = m.means names }
+          go (stands.Above n) m h C = record { names = names; cited = C.some (some_lines n h); answer = m.means names }
+          go stands.Apart m h C = m.means names
 
-      pub query_refused : (k : Refusal) → o.reply ≡ Err k → Telling o.workspace (code.Refused k) 0 after old new r → Carries w i (some (order.query x y)) before after old new r
-      query_refused k e T = carried_query (code.Refused k) 0 T (rw e (ap (refused (refusal_number k)) (T.none refl)))
+      pub query_refused : (k : Refusal) → o.reply ≡ Err k → Telling o.workspace (code.Refused k) [] old new r → Carries w i (some (order.query x y)) before after old new r
+      query_refused k e T = carried_query (code.Refused k) [] T (rw e refl)

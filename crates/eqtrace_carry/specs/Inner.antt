@@ -3,7 +3,7 @@
 --   stance_answered   what is said of how two nodes stand, with the names that it cites
 --   Means     the code's answer is what is said
 --   CitesIn   these names are cited by the first n lines; none where there is no line
---   Telling   an answer's text, with the names that n lines cite
+--   Telling   an answer's text, with the names cited beside it
 use Rattle.std.specs.Prelude.{◌≡◌, List, [], ℕ, ◌≤◌, length}
 use Rattle.proof_lines.specs.Codec.{first_lines}
 use Rattle.proof_cited.specs.Cited.{CitedRising}
@@ -11,17 +11,11 @@ use Rattle.unifier.specs.declared.Workspace.{Workspace}
 use Rattle.refusals.specs.Numbers.{Brought, nothing, proof, place}
 use Rattle.unifier_respond.specs.declared.Standing.{Standing}
 use Rattle.unifier_respond.specs.declared.Standing.TheVariants as stands
-use Rattle.eqtrace_answers.specs.Text.{Output, node, same, below, above, apart}
-use Rattle.unifier.specs.Replies.{node_number}
+use Rattle.eqtrace_answers.specs.Text.{Output, same, below, above, apart}
 use Rattle.eqtrace_script.specs.Script.{refuses}
 use Rattle.eqtrace_answers.specs.Puts.{meant, Small, Says}
 use Rattle.eqtrace_answers.specs.declared.Answer.{Answer as Code}
-use Rattle.unifier.specs.declared.Outcome.{Outcome}
-use Rattle.unifier.specs.Answers.{Answers}
 use Rattle.graph.specs.Limits.{line_limit}
-use Rattle.graph.specs.State.{functor}
-use Rattle.graph.specs.Book as book
-use Rattle.eqtrace_carry.specs.Carried.{plainly}
 use Rattle.eqtrace_carry.specs.declared.Carried.{Carried}
 
 abbrev pub brought_lines : Brought → ℕ
@@ -50,22 +44,7 @@ pub record CitesIn (n : ℕ) (bytes cited : List ℕ) : Type 0 where
   pub none : n ≡ 0 → cited ≡ []
   pub some : 1 ≤ n → CitedRising (first_lines n bytes) cited
 
-pub record Telling (w : Workspace) (a : Code) (n : ℕ) (bytes old new : List ℕ) (r : Carried) : Type 0 where
-  pub names : List ℕ
-  pub none : n ≡ 0 → names ≡ []
-  pub some : 1 ≤ n → CitedRising (first_lines n bytes) names
+pub record Telling (w : Workspace) (a : Code) (names old new : List ℕ) (r : Carried) : Type 0 where
   pub says : Says (meant a names) old new r.length
   pub refused_is : r.refused ≡ refuses (meant a names)
   pub workspace : r.workspace ≡ w
-
--- the answer to a call that cites nothing
-pub record Replying {A : Type 0} (o : Outcome A) (speaks : A → Output) (old new : List ℕ) (r : Carried) : Type 0 where
-  pub says : Says (plainly speaks o.reply) old new r.length
-  pub refused_is : r.refused ≡ refuses (plainly speaks o.reply)
-  pub workspace : r.workspace ≡ o.workspace
-
--- a functor node declared
-pub record Declares (w : Workspace) (f : ℕ) (cs old new : List ℕ) (r : Carried) : Type 0 where
-  pub outcome : Outcome ℕ
-  pub answers : Answers node_number w (book.declare (functor f cs)) outcome
-  pub replying : Replying outcome node old new r

@@ -6,14 +6,11 @@ use Prim.Native.Nat.{ℕ, suc, ◌+◌, ◌-◌, ◌≤◌, ◌<◌}
 use native.Mathlib.Numerals.{add-one}
 use native.Mathlib.Omega.{arith}
 use lib.ListN.{length, get_or, take, drop, drop_of_length-le}
-use lib.Seq.{drop-cons, drop-drop}
+use lib.Seq.{drop-drop}
+use Rattle.std.proofs.lemmas.List.{drop_more}
 use lib.Dec.{eqb}
 use Rattle.eqtrace_orders.specs.Grammar.{on_first, split, drop_last, orders_in}
 use Rattle.eqtrace_orders.specs.Input.{first_to, first_line, EndsAt}
-use Rattle.base.proofs.AbsurdLaws.{zero_is_one}
-
-drop_here : (l : List ℕ) (i : ℕ) → i < length l → drop i l ≡ get_or l i 0 ∷ drop (i + 1) l
-drop_here l i h = rw add-one (drop-cons l i 0 h)
 
 -- ---- parts
 
@@ -52,7 +49,7 @@ whole [] e = refl
 whole (x ∷ xs) e = go (eqb x 10) (whole xs) e
   where
     go : (b : Bool) → (drop (length (first_line xs)) xs ≡ [] → first_line xs ≡ xs) → drop (length (cond b [] (x ∷ first_line xs))) (x ∷ xs) ≡ [] → cond b [] (x ∷ first_line xs) ≡ x ∷ xs
-    go true f e = zero_is_one cc
+    go true f e = cc
     go false f e = ap (λ (r : List ℕ). x ∷ r) (f e)
 
 -- parts are never none
@@ -85,7 +82,7 @@ orders_at input at end h e =
     let k : end - at ≡ length (first_line (drop at input)) = omega (arith, e.end_at) in
     let d : drop (suc (length (first_line (drop at input)))) (drop at input) ≡ drop (end + 1) input =
     drop-drop (suc (length (first_line (drop at input)))) at input ∙ ap (λ (n : ℕ). drop n input) (let q : at + suc (length (first_line (drop at input))) ≡ end + 1 = omega (arith, e.end_at) in q) in
-    let c : drop at input ≡ get_or input at 0 ∷ drop (at + 1) input = drop_here input at h in
+    let c : drop at input ≡ get_or input at 0 ∷ drop (at + 1) input = drop_more input at 0 h in
     let s : orders_in (drop at input) ≡ first_line (drop at input) ∷ orders_in (drop (suc (length (first_line (drop at input)))) (drop at input)) =
     rw c (orders_some (get_or input at 0) (drop (at + 1) input)) in
     s ∙ ap₂ (λ (x : List ℕ) (r : List (List ℕ)). x ∷ r) (sym (ap (λ (n : ℕ). take n (drop at input)) k ∙ first_is_taken (drop at input))) (ap orders_in d)

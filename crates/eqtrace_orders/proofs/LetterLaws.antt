@@ -2,9 +2,9 @@
 use Rattle.std.proofs.Common.{◌≡◌, ℕ, ◌-◌, ◌≤◌, List, [], ◌∷◌, length, take, drop, get_or, Bool, true, false, cond, eqb, refl, sym, ap, ◌∙◌, arith}
 use Rattle.std.specs.Prelude.{Some, None}
 use Rattle.std.proofs.Math.Option.{Option, none, some}
-use Rattle.std.proofs.lemmas.List.{length-take, length-drop}
-use lib.Seq.{take_all}
+use Rattle.std.proofs.lemmas.List.{length-take, take-take, take_rest}
 use borrow.Author.Tests.{ne_eqb, eqb-true}
+use Rattle.arrayvec.specs.ArrayVec.{ArrayVec}
 use Rattle.graph.specs.Lines.{try}
 use Rattle.eqtrace_orders.specs.Grammar.{on_first, split, numbers_of, by_letter, words_as, order_of, functor}
 use Rattle.eqtrace_orders.specs.declared.Order.TheVariants.{Functor}
@@ -45,9 +45,7 @@ unfolding order_of
 letters x y l n = rw (ne_eqb y 32 n, long_word x y (split 32 l) (eqb x 32))
 
 take_two : (l : List ℕ) → take 2 (take 2 l) ≡ take 2 l
-take_two [] = refl
-take_two (x ∷ []) = refl
-take_two (x ∷ (y ∷ l)) = refl
+take_two l = take-take 2 2 l (omega arith)
 
 few : (n : ℕ) (l : List ℕ) → length (take n l) ≤ n
 few n l = rw length-take (omega arith)
@@ -64,7 +62,7 @@ sixth x (a ∷ (b ∷ (c ∷ (d ∷ ns)))) = go (eqb x 86) (eqb x 70) (eqb x 69)
         → order_found (cond v none (cond f (some (functor a (b ∷ (c ∷ (d ∷ take 2 ns))))) (cond e none (cond w none (cond q none none)))))
         ≡ order_found (cond v none (cond f (some (functor a (b ∷ (c ∷ (d ∷ ns))))) (cond e none (cond w none (cond q none none)))))
     go true f e w q = refl
-    go false true e w q = ap (λ (l : List ℕ). Some (Functor a (b ∷ (c ∷ (d ∷ l))))) (take_two ns)
+    go false true e w q = ap (λ (l : List ℕ). Some (Functor a (record { items = b ∷ (c ∷ (d ∷ l)) }))) (take_two ns)
     go false false true w q = refl
     go false false false true q = refl
     go false false false false true = refl
@@ -93,7 +91,7 @@ no_letter (x ∷ (y ∷ l)) a b = letters x y l (b (omega arith))
 module _ (l : List ℕ) (n : 2 ≤ length l) (e : get_or l 1 0 ≡ 32) where
   -- the part from the third byte on
   part : take (length l - 2) (drop 2 l) ≡ drop 2 l
-  part = take_all (length l - 2) (drop 2 l) (rw length-drop (omega arith))
+  part = take_rest l 2
 
   pub words_bad : words_found (take (length l - 2) (drop 2 l)) ≡ None → Parses l None
   words_bad q = rw (spaced_line l n e) (go (numbers_of (split 32 (drop 2 l))) (rw part at q))
@@ -102,11 +100,11 @@ module _ (l : List ℕ) (n : 2 ≤ length l) (e : get_or l 1 0 ≡ 32) where
       go none q = refl
       go (some ns) q = cc
 
-  pub words_read : (ns : List ℕ) → words_found (take (length l - 2) (drop 2 l)) ≡ Some ns → (length ns ≤ 6) × Parses l (order_found (by_letter (get_or l 0 0) ns))
-  words_read ns q = rw (spaced_line l n e) (go (numbers_of (split 32 (drop 2 l))) (rw part at q))
+  pub words_read : (v : ArrayVec ℕ) → words_found (take (length l - 2) (drop 2 l)) ≡ Some v → (length v.items ≤ 6) × Parses l (order_found (by_letter (get_or l 0 0) v.items))
+  words_read v q = rw (spaced_line l n e) (go (numbers_of (split 32 (drop 2 l))) (rw part at q))
     where
-      go : (o : Option (List ℕ)) → six_of o ≡ Some ns → (length ns ≤ 6) × (order_found (by_letter (get_or l 0 0) ns) ≡ order_found (try o (by_letter (get_or l 0 0))))
+      go : (o : Option (List ℕ)) → six_of o ≡ Some v → (length v.items ≤ 6) × (order_found (by_letter (get_or l 0 0) v.items) ≡ order_found (try o (by_letter (get_or l 0 0))))
       go none q = cc
       go (some all) q =
-          let z : ns ≡ take 6 all = cc in
+          let z : v.items ≡ take 6 all = ap (λ (x : ArrayVec ℕ). x.items) (cc) in
           rw z (few 6 all, sixth (get_or l 0 0) all)

@@ -1,12 +1,14 @@
 -- The words of an order, read one after the other as numbers.
-use Rattle.std.proofs.Common.{◌≡◌, ℕ, zero, suc, ◌+◌, ◌≤◌, ◌<◌, List, [], ◌∷◌, ◌++◌, length, take, drop, get_or, cond, eqb, refl, sym, ap, ◌∙◌, append_assoc}
-use Rattle.std.specs.Prelude.{Some, None}
+use Rattle.std.proofs.Common.{◌≡◌, ℕ, zero, suc, ◌+◌, ◌≤◌, ◌<◌, List, [], ◌∷◌, ◌++◌, length, take, drop, get_or, cond, eqb, refl, sym, ap, ◌∙◌, append_assoc, arith}
+use Rattle.std.specs.Prelude.{◌↔◌, Some, None, Result, Ok, Err, IsOk, OnOk, OnErr}
 use Rattle.std.specs.List.{slice_split, onto_first}
 use Rattle.std.proofs.Math.Option as math
-use Rattle.std.proofs.lemmas.List.{at_drop_more, at_drop_all}
+use Rattle.std.proofs.lemmas.List.{take_all, take-append-le, length-append, at_drop_more, at_drop_all}
+use Rattle.arrayvec.specs.ArrayVec.{ArrayVec}
 use Rattle.graph.specs.Lines.{try}
 use Rattle.eqtrace_orders.specs.Grammar.{on_first, split, number_in, numbers_of}
 use Rattle.eqtrace_orders.specs.Parse.{handed_on}
+use mathlib.Core.List.{append-nil}
 
 onto : (x : ℕ) (parts : List (List ℕ)) → onto_first x parts ≡ on_first x parts
 onto x [] = refl
@@ -16,10 +18,6 @@ onto x (p ∷ ps) = refl
 pub split_slice : (at : ℕ) (l : List ℕ) → slice_split (λ b. eqb b at) l ≡ split at l
 split_slice at [] = refl
 split_slice at (x ∷ xs) = rw (split_slice at xs) (ap (λ (r : List (List ℕ)). cond (eqb x at) ([] ∷ split at xs) r) (onto x (split at xs)))
-
-append_nil : (l : List ℕ) → l ++ [] ≡ l
-append_nil [] = refl
-append_nil (x ∷ xs) = ap (λ (r : List ℕ). x ∷ r) (append_nil xs)
 
 -- what stands past the first n of a list doesn't come among the first n of a longer one
 take_twice : (n : ℕ) (l more : List ℕ) → take n (take n l ++ more) ≡ take n (l ++ more)
@@ -40,6 +38,12 @@ pub found_some : (o : math.Option ℕ) (x : ℕ) → handed_on o ≡ Some x → 
 found_some math.none x e = cc
 found_some (math.some y) x e = cc
 
+-- a number put at the end, or dropped behind the sixth
+pub kept_more : {E : Type 0} (r : Result (Unit {0}) E) (v w : ArrayVec ℕ) (x : ℕ) → IsOk r ↔ (length v.items < 6) → OnOk r (w.items ≡ v.items ++ x ∷ []) → OnErr r (w ≡ v) → OnErr r (length v.items ≡ 6)
+    → w.items ≡ take 6 (v.items ++ x ∷ [])
+kept_more (Ok u) v w x few ok err full = ok ∙ sym (take_all 6 (v.items ++ x ∷ []) (omega (arith, few.0 refl, length-append v.items (x ∷ []))))
+kept_more (Err e) v w x few ok err full = ap (λ (u : ArrayVec ℕ). u.items) err ∙ sym (take-append-le 6 v.items (x ∷ []) (omega (arith, full)) ∙ take_all 6 v.items (omega (arith, full)))
+
 -- the first k words are numbers, of which the first six are kept
 pub record Reading (words : List (List ℕ)) (k : ℕ) (kept : List ℕ) : Type 0 where
   pub seen : List ℕ
@@ -48,7 +52,7 @@ pub record Reading (words : List (List ℕ)) (k : ℕ) (kept : List ℕ) : Type 
 
 module _ (words : List (List ℕ)) (k : ℕ) (kept : List ℕ) (R : Reading words k kept) where
   pub reading_all : length words ≤ k → numbers_of words ≡ math.some R.seen
-  reading_all h = R.rest ∙ ap (prefixed R.seen) (at_drop_all numbers_of words k h) ∙ ap math.some (append_nil R.seen)
+  reading_all h = R.rest ∙ ap (prefixed R.seen) (at_drop_all numbers_of words k h) ∙ ap math.some (append-nil R.seen)
 
   module _ (w : List ℕ) (h : k < length words) (e : w ≡ get_or words k w) where
     here : numbers_of (drop k words) ≡ numbers_of (w ∷ drop (k + 1) words)

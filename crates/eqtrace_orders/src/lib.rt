@@ -1,65 +1,13 @@
 // An order's bytes to an order.
 #![tactic(auto)]
 
-ghost use Rattle.std.specs.Prelude.{◌≡◌, [], ◌∷◌, ◌++◌, ◌≤◌, ◌<◌, length, take};
+ghost use Rattle.std.specs.Prelude.{◌≡◌, [], ◌≤◌, length};
 ghost use Rattle.eqtrace_orders.specs.Grammar.{digits_from, number_in, by_letter};
 ghost use Rattle.eqtrace_orders.specs.Parse.{handed_on, words_found, order_found, Parses};
 
-use std::marker::Model;
+use arrayvec::ArrayVec;
 
-// At most six numbers.
-#[derive(Drop)]
-pub struct Numbers {
-    values: [u16; 6],
-    count: usize,
-}
-
-impl Model for Numbers {
-    ghost use Rattle.std.specs.Prelude.{List, ℕ, ◌≤◌, take};
-
-    ghost Value = { List ℕ };
-
-    ghost view = { λ q. take q.count q.values };
-
-    ghost invariant = { λ q. q.count ≤ 6 };
-}
-
-impl Numbers {
-    fn new() -> Numbers
-        ensures { result ≡ [] }
-    {
-        Numbers {
-            values: [0; 6],
-            count: 0,
-        }
-    }
-
-    // The first six numbers are kept.
-    fn push(&mut self, x: u16)
-        ensures { self.new ≡ take 6 (self.old ++ x ∷ []) }
-    {
-        if self.count < 6 {
-            self.values[self.count] = x;
-            self.count += 1;
-        }
-    }
-
-    // The first six of the numbers.
-    fn from_slice(numbers: &[u16]) -> Numbers
-        ensures { result ≡ take 6 numbers.now }
-    {
-        let count = numbers.len().min(6);
-        let mut values = [0; 6];
-        values[..count].copy_from_slice(&numbers[..count]);
-        Numbers { values, count }
-    }
-
-    pub fn as_slice(&self) -> &[u16]
-        ensures { result.now ≡ self.now }
-    {
-        &self.values[..self.count]
-    }
-}
+pub type Numbers = ArrayVec<u16, 6>;
 
 // An order. Five children are enough to be refused, so the first five are handed on.
 #[derive(Drop)]
@@ -71,7 +19,7 @@ pub enum Order {
     Query { left: u16, right: u16 },
 }
 
-// The digits' value, at most 65,535.
+// The digits' value, at most 65,535. No `str::parse`: it wants UTF-8 first, and takes a plus.
 fn digits(word: &[u8]) -> Option<u16>
     ensures { result ≡ handed_on (digits_from 0 word.now) }
 {
@@ -96,13 +44,13 @@ fn number(word: &[u8]) -> Option<u16>
     }
 }
 
-// The words, each a number.
+// The words, each a number; the first six are kept.
 fn collect(words: &[u8]) -> Option<Numbers>
     ensures { result ≡ words_found words.now }
 {
     let mut numbers = Numbers::new();
     for word in words.split(|b| *b == b' ') {
-        numbers.push(number(word)?);
+        let _ = numbers.try_push(number(word)?);
     }
     Some(numbers)
 }
@@ -116,7 +64,7 @@ fn by_letter(letter: u8, numbers: &[u16]) -> Option<Order>
         (b'V', []) => Some(Order::Variable),
         (b'F', [symbol, children @ ..]) => Some(Order::Functor {
             symbol: *symbol,
-            children: Numbers::from_slice(children),
+            children: Numbers::try_from(children).ok()?,
         }),
         (b'E', [name, left, right]) => Some(Order::Equate {
             name: *name,

@@ -9,17 +9,12 @@ use Rattle.std.proofs.lemmas.List.{length-drop}
 use Prim.Native.Nat.{ℕ, suc, ◌+◌, ◌-◌, ◌≤◌, ◌<◌}
 use native.Mathlib.Omega.{arith}
 use lib.ListN.{length, take, drop}
-use lib.Seq.{take_all}
 use lib.Dec.{eqb, ltb}
 use borrow.Author.Tests.{eqb-true, ltb-false}
 use Rattle.eqtrace_orders.specs.Grammar.{order_of}
 use Rattle.eqtrace_orders.specs.Input.{first_line, EndsAt}
 use Rattle.eqtrace_orders.proofs.InputLaws.{first_is_taken}
-use Rattle.eqtrace_answers.specs.Puts.{meant}
-use Rattle.eqtrace_answers.specs.declared.Answer.{Answer as Code}
-use Rattle.eqtrace_answers.specs.declared.Answer.TheVariants as says
-use Rattle.eqtrace_script.specs.Script.{refuses, goes_on, next_place, is_keep}
-use Rattle.base.proofs.AbsurdLaws.{zero_is_one}
+use Rattle.eqtrace_script.specs.Script.{goes_on, next_place, is_keep}
 
 -- the first line break, where std looks for it
 line_position : (l : List ℕ) → position_or_len (λ b. eqb b 10) l ≡ length (first_line l)
@@ -37,10 +32,6 @@ line_within (x ∷ xs) = go (eqb x 10) (line_within xs)
     go : (b : Bool) → length (first_line xs) ≤ length xs → length (cond b [] (x ∷ first_line xs)) ≤ suc (length xs)
     go true h = omega arith
     go false h = omega arith
-
--- all that stands from a place on
-pub rest_is : (input : List ℕ) (at : ℕ) → take (length input - at) (drop at input) ≡ drop at input
-rest_is input at = take_all (length input - at) (drop at input) (rw length-drop (omega arith))
 
 module _ (input : List ℕ) (at : ℕ) (h : at ≤ length input) (l : List ℕ) (e : l ≡ drop at input) where
   ends : (end : ℕ) → end ≡ at + length (first_line l) → EndsAt input at end
@@ -61,29 +52,18 @@ module _ (input : List ℕ) (at : ℕ) (h : at ≤ length input) (l : List ℕ) 
       go false t q = omega (arith, ltb-false _ _ t, line_position l, line_within l, ap length e, length-drop at input)
 
 pub keep_length : (line : List ℕ) → is_keep line ≡ true → length line ≡ 1
-keep_length [] e = zero_is_one cc
+keep_length [] e = cc
 keep_length (x ∷ []) e = refl
-keep_length (x ∷ (y ∷ ys)) e = zero_is_one cc
+keep_length (x ∷ (y ∷ ys)) e = cc
 
 pub keep_unreadable : (line : List ℕ) → is_keep line ≡ true → order_of line ≡ none
 unfolding order_of
-keep_unreadable [] e = zero_is_one cc
+keep_unreadable [] e = cc
 keep_unreadable (x ∷ []) e = rw (eqb-true x 75 e)
-keep_unreadable (x ∷ (y ∷ ys)) e = zero_is_one cc
+keep_unreadable (x ∷ (y ∷ ys)) e = cc
 
 pub first_line_lem : (input : List ℕ) (end : ℕ) → EndsAt input 0 end → take (end - 0) input ≡ first_line input
 first_line_lem input end e = let k : end - 0 ≡ length (first_line input) = omega (arith, e.end_at) in ap (λ (n : ℕ). take n input) k ∙ first_is_taken input
-
-pub refuses_meant : (a : Code) (ns : List ℕ) → refuses (meant a []) ≡ refuses (meant a ns)
-refuses_meant (says.Node i) ns = refl
-refuses_meant (says.Held n) ns = refl
-refuses_meant (says.Gone n) ns = refl
-refuses_meant says.Same ns = refl
-refuses_meant says.Below ns = refl
-refuses_meant says.Above ns = refl
-refuses_meant says.Apart ns = refl
-refuses_meant (says.Refused k) ns = refl
-refuses_meant (says.Unreadable i) ns = refl
 
 -- the next place lies behind the order's, whether it is the next line's or the end
 pub place_on : (keep refusal : Bool) (at end size : ℕ) → at ≤ end → at < size → at < next_place keep refusal end size

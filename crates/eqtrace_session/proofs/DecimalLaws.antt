@@ -11,7 +11,7 @@ use borrow.Author.Tests.{le-leb, ne_eqb, ltb-true, ltb-false}
 use Rattle.graph.specs.Lines.{try}
 use Rattle.eqtrace_orders.specs.Grammar.{is_digit, digits_from, number_in}
 use Rattle.eqtrace_answers.specs.Text.{decimal_by, decimal}
-use Rattle.eqtrace_answers.proofs.DigitLaws.{limit, tenth}
+use Rattle.eqtrace_answers.proofs.DigitLaws.{limit}
 
 -- one digit more
 abbrev more : ℕ → ℕ → Option ℕ
@@ -36,7 +36,7 @@ one_read x h = let e : 0 * 10 + x ≡ x = omega arith in digit_read 0 x h (omega
 
 read : (k x : ℕ) → x < limit k → x ≤ 65535 → digits_from 0 (decimal_by k x) ≡ some x
 read zero x h l = one_read x h
-read (suc k) x h l = go (ltb x 10) refl (read k (x / 10) (tenth x (limit k) h) (let d : x / 10 * 10 + x % 10 ≡ x = div-add-mod' x 10 in omega arith))
+read (suc k) x h l = go (ltb x 10) refl (read k (x / 10) (omega arith) (let d : x / 10 * 10 + x % 10 ≡ x = div-add-mod' x 10 in omega arith))
   where
     go : (b : Bool) → ltb x 10 ≡ b → digits_from 0 (decimal_by k (x / 10)) ≡ some (x / 10) → digits_from 0 (cond b ((48 + x) ∷ []) (decimal_by k (x / 10) ++ ((48 + x % 10) ∷ []))) ≡ some x
     go true e r = one_read x (ltb-true x 10 e)

@@ -12,7 +12,6 @@ use Rattle.eqtrace_session.specs.Transcript.{too_long}
 use Rattle.eqtrace_session.specs.Steps.{left_of}
 use Rattle.eqtrace_session.specs.declared.Left.{Left}
 use Rattle.eqtrace_session.specs.declared.Left.TheVariants as left
-use Rattle.base.proofs.AbsurdLaws.{zero_is_one}
 
 module _ (input : List ℕ) (at i : ℕ) where
   pub left_nothing : length input ≤ at → left.Nothing ≡ left_of input at i
@@ -40,8 +39,8 @@ module _ (input : List ℕ) (at i : ℕ) where
       go : (x y z : Bool) → leb (length input) at ≡ x → ltb input_limit i ≡ y → cond x left.Nothing (cond y left.Nothing (cond z left.TooLong left.Order)) ≡ left.Nothing → length input ≤ at
       go true y z p q e = leb-true (length input) at p
       go false true z p q e = omega (arith, ltb-true input_limit i q)
-      go false false true p q e = zero_is_one cc
-      go false false false p q e = zero_is_one cc
+      go false false true p q e = cc
+      go false false false p q e = cc
 
   -- where something is left
   pub record Within (z : Bool) : Type 0 where
@@ -55,11 +54,11 @@ module _ (input : List ℕ) (at i : ℕ) where
     where
       go : (x y t z : Bool) → leb (length input) at ≡ x → ltb input_limit i ≡ y → too_long input ≡ t
           → cond x left.Nothing (cond y left.Nothing (cond t left.TooLong left.Order)) ≡ cond z left.TooLong left.Order → Within z
-      go true y t true p q r e = zero_is_one cc
-      go true y t false p q r e = zero_is_one cc
-      go false true t true p q r e = zero_is_one cc
-      go false true t false p q r e = zero_is_one cc
+      go true y t true p q r e = cc
+      go true y t false p q r e = cc
+      go false true t true p q r e = cc
+      go false true t false p q r e = cc
       go false false true true p q r e = record { inside = leb-false (length input) at p; number = ltb-false input_limit i q; long = r }
-      go false false true false p q r e = zero_is_one cc
-      go false false false true p q r e = zero_is_one cc
+      go false false true false p q r e = cc
+      go false false false true p q r e = cc
       go false false false false p q r e = record { inside = leb-false (length input) at p; number = ltb-false input_limit i q; long = r }

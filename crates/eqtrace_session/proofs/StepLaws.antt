@@ -48,11 +48,11 @@ cursor_next keep a w end size i at refused f e = rw (e, f)
 
 -- ---- the code's steps
 
-pub said_too_long : (keep : Bool) (w : Workspace) (end i : ℕ) (old new : List ℕ) (t : Carried) → Carries w 0 none [] [] old new t
-    → TooLong keep w end i old new (record { cursor = cursor_at keep t.workspace end i; length = t.length })
-said_too_long keep w end i old new t C = record {
+pub said_too_long : (c : Cursor) (input old new : List ℕ) (t : Carried) → Carries c.workspace 0 none [] [] old new t
+    → TooLong c input old new (record { cursor = cursor_at c.keep t.workspace (length input) c.number; length = t.length })
+said_too_long c input old new t C = record {
   says = subst (λ (a : Output). Says a old new t.length) C.does.said C.says;
-  cursor = ap (λ (v : Workspace). cursor_at keep v end i) C.does.workspace;
+  cursor = ap (λ (v : Workspace). cursor_at c.keep v (length input) c.number) C.does.workspace;
 }
 
 pub steps_at : (c : Cursor) (input before after old new : List ℕ) (r : Stepped) (l : Left) → l ≡ left_of input c.at c.number → StepsBy l c input before after old new r
@@ -108,5 +108,5 @@ module _ (c : Cursor) (input before after old new : List ℕ) (r : Stepped) wher
         on = λ z. absurd (z (ap (λ (x : Stepped). x.length) s.0));
         room = let z : r.length ≡ 0 = ap (λ (x : Stepped). x.length) s.0 in omega arith;
       }
-      go left.TooLong e s = seen_moves (moves left.TooLong e (λ q. let z : ◌≡◌ {A = ℕ} 0 1 = cc in omega arith) s)
-      go left.Order e s = seen_moves (moves left.Order e (λ q. let z : ◌≡◌ {A = ℕ} 0 1 = cc in omega arith) s)
+      go left.TooLong e s = seen_moves (moves left.TooLong e (λ q. cc) s)
+      go left.Order e s = seen_moves (moves left.Order e (λ q. cc) s)

@@ -16,7 +16,6 @@ use Rattle.eqtrace_script.specs.Script.{refuses, left_after, to_refusal, some_re
 use Rattle.eqtrace_script.proofs.ScriptLaws.{keep_unreadable}
 use Rattle.eqtrace_session.specs.Program.{spoken, Calls, Stance, is_same, lies_below, lies_above, is_apart, QueryReplies, BookAnswers, BookAnswersAll, over, next, TwoWays}
 use Rattle.eqtrace_session.specs.Transcript.{too_long, ToldBy, Told}
-use Rattle.base.proofs.AbsurdLaws.{zero_is_one}
 
 pub stance_unique : {A : Type 0} {s : State} {u v : ℕ} {x y z t a b : A} → Stance s u v x y z t a → Stance s u v x y z t b → a ≡ b
 stance_unique (is_same p) (is_same q) = refl
@@ -75,7 +74,7 @@ told_unique input xs ys d e = go (too_long input)
 
 none_told : {keep : Bool} {s d : State} {i : ℕ} {lines : List (List ℕ)} {xs : List Output} → lines ≡ [] → BookAnswersAll keep s i lines xs d → xs ≡ []
 none_told e over = refl
-none_told e (next h r) = zero_is_one cc
+none_told e (next h r) = cc
 
 cut : {s d e : State} {i : ℕ} {lines : List (List ℕ)} {xs ys : List Output} → BookAnswersAll true s i lines ys e → BookAnswersAll false s i lines xs d → xs ≡ to_refusal ys
 cut over over = refl
@@ -90,7 +89,7 @@ cut (next {s} {d = f} {e = e} {i = i} {line = line} {lines = lines} {a = b} {ans
 
 rest : {s d : State} {i : ℕ} {lines : List (List ℕ)} {xs : List Output} (more : List (List ℕ)) → BookAnswersAll false s i lines xs d → some_refuses xs ≡ true
     → BookAnswersAll false s i (lines ++ more) xs d
-rest more over e = zero_is_one cc
+rest more over e = cc
 rest more (next {d = d} {e = v} {i = i} {lines = lines} {a = a} {answers = xs} h r) e = next h (go (refuses a) r (λ q. rest more r q) e)
   where
     go : (b : Bool) → BookAnswersAll false d (i + 1) (cond (not b) lines []) xs v → (some_refuses xs ≡ true → BookAnswersAll false d (i + 1) (cond (not b) lines [] ++ more) xs v)

@@ -31,7 +31,6 @@ use Rattle.eqtrace_session.proofs.LeftLaws.{left_nothing, left_over, within}
 use Rattle.eqtrace_session.proofs.SessionLaws.{faithful}
 use Rattle.eqtrace_session.proofs.TellsLaws.{told_unique}
 use Rattle.eqtrace_session.proofs.StepLaws.{text_is, seen}
-use Rattle.base.proofs.AbsurdLaws.{zero_is_one}
 
 -- ---- the answers that are still to come
 
@@ -172,7 +171,7 @@ rest_whole b input h n answers w r = go (leb (length input) b.at) (ltb input_lim
         → RestBy (cond x left.Nothing (cond y left.Nothing (cond z left.TooLong left.Order))) input b answers w → RestBy (cond z left.TooLong left.Order) input b answers w
     go true y true p q e r = absurd (omega (arith, ltb-true input_limit (length input) e, leb-true (length input) b.at p))
     go true y false p q e r = rw (orders_end input b.at (leb-true (length input) b.at p), r.0, r.1) told.over
-    go false true z p q e r = zero_is_one cc
+    go false true z p q e r = cc
     go false false z p q e r = r
 
 answers_to : (b : Cursor) (input : List ℕ) → Begins input b → (answers : List Output) (w : Workspace) → Rest input b answers w → AnswersTo input answers w

@@ -34,22 +34,22 @@ beginning input = cond (is_keep (first_line input)) (cursor_at true fresh_worksp
 unfoldable pub left_of : List ℕ → ℕ → ℕ → Left
 left_of input at i = cond (leb (length input) at) left.Nothing (cond (ltb input_limit i) left.Nothing (cond (too_long input) left.TooLong left.Order))
 
-pub record TooLong (keep : Bool) (w : Workspace) (end i : ℕ) (old new : List ℕ) (r : Stepped) : Type 0 where
+pub record TooLong (c : Cursor) (input old new : List ℕ) (r : Stepped) : Type 0 where
   pub says : Says (unreadable 0) old new r.length
-  pub cursor : r.cursor ≡ cursor_at keep w end i
+  pub cursor : r.cursor ≡ cursor_at c.keep c.workspace (length input) c.number
 
-pub record OrderAt (keep : Bool) (w : Workspace) (input : List ℕ) (at i : ℕ) (before after old new : List ℕ) (r : Stepped) : Type 0 where
+pub record OrderAt (c : Cursor) (input before after old new : List ℕ) (r : Stepped) : Type 0 where
   pub end : ℕ
-  pub ends : EndsAt input at end
+  pub ends : EndsAt input c.at end
   pub carried : Carried
-  pub carries : Carries w i (order_of (take (end - at) (drop at input))) before after old new carried
+  pub carries : Carries c.workspace c.number (order_of (take (end - c.at) (drop c.at input))) before after old new carried
   pub length_is : r.length ≡ carried.length
-  pub cursor : r.cursor ≡ cursor_at keep carried.workspace (next_place keep (refuses carries.answer) end (length input)) (i + 1)
+  pub cursor : r.cursor ≡ cursor_at c.keep carried.workspace (next_place c.keep (refuses carries.answer) end (length input)) (c.number + 1)
 
 abbrev pub StepsBy : Left → Cursor → List ℕ → List ℕ → List ℕ → List ℕ → List ℕ → Stepped → Type 0
 StepsBy left.Nothing c input before after old new r = (r ≡ record { cursor = c; length = 0 }) × (after ≡ before) × (new ≡ old)
-StepsBy left.TooLong c input before after old new r = TooLong c.keep c.workspace (length input) c.number old new r × (after ≡ before)
-StepsBy left.Order c input before after old new r = OrderAt c.keep c.workspace input c.at c.number before after old new r
+StepsBy left.TooLong c input before after old new r = TooLong c input old new r × (after ≡ before)
+StepsBy left.Order c input before after old new r = OrderAt c input before after old new r
 
 pub record Steps (c : Cursor) (input before after old new : List ℕ) (r : Stepped) : Type 0 where
   pub step : StepsBy (left_of input c.at c.number) c input before after old new r

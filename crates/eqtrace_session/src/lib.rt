@@ -13,6 +13,16 @@ const INPUT: usize = 65536; // bytes of an input
 
 const ORDERS: u32 = 65536; // of an input: each has at least its line break, but perhaps the last
 
+// What a caller lends: bytes for a proof, places for names and bytes for an answer, as `eqtrace_carry` asks for them. `sizes` stands here, since
+// the length of an array in a struct behind a reference isn't known otherwise.
+#[derive(Drop)]
+pub struct Buffers {
+    pub proof: [u8; 65536],
+    pub names: [u16; 8192],
+    pub out: [u8; 49184],
+    pub ghost sizes: { (length proof ≡ buffer_bytes) × (length names ≡ line_limit) × (length out ≡ answer_room) },
+}
+
 // A place in an input: whether to keep going after a refusal, the workspace after the orders before it, where the next one begins, and its
 // number. Only `begin` and `step` make one.
 #[derive(Clone, Copy)]
@@ -23,7 +33,7 @@ pub struct Cursor {
     number: u32,
 }
 
-// What is left of an input at a cursor: three ways to go on, of which none has a value or is a fault.
+// What is left of an input at a cursor: three ways to go on, and none has a value.
 #[derive(Clone, Copy)]
 enum Left {
     Nothing,
@@ -31,7 +41,8 @@ enum Left {
     Order,
 }
 
-// The cursor behind a step, and how many bytes of the lent buffer the step's text has: 0 where nothing was left.
+// The cursor behind a step, and how many bytes of the lent buffer the step's text has: 0 where nothing was left. No Option: `Steps` promises an
+// empty text there, and an order's text has at least its line break, so 0 says it already, and the program's loop stops at it.
 #[derive(Clone, Copy)]
 pub struct Stepped {
     pub cursor: Cursor,
@@ -44,23 +55,69 @@ pub fn workspace(c: Cursor) -> Workspace
     c.workspace
 }
 
-// No step comes to a number above ORDERS.
-fn left_at(input: &[u8], at: usize, i: u32) -> Left
-    ensures { result ≡ left_of input.now at i }
-{
-    if input.len() <= at {
-        return Left::Nothing;
+impl Cursor {
+    // No step comes to a number above ORDERS.
+    #[tactic(auto, using(crate::proofs::LeftLaws::left_nothing, crate::proofs::LeftLaws::left_many, crate::proofs::LeftLaws::left_long, crate::proofs::LeftLaws::left_order))]
+    fn left(&self, input: &[u8]) -> Left
+        ensures { result ≡ left_of input.now self.now.at self.now.number }
+    {
+        if input.len() <= self.at {
+            return Left::Nothing;
+        }
+        if ORDERS < self.number {
+            return Left::Nothing;
+        }
+        if INPUT < input.len() {
+            return Left::TooLong;
+        }
+        Left::Order
     }
-    if ORDERS < i {
-        return Left::Nothing;
+
+    // The one answer to an input that is too long.
+    fn too_long(self, input: &[u8], out: &mut [u8]) -> Stepped
+        requires { 20 ≤ length out.old }
+        ensures { TooLong self input.now out.old out.new result }
+    {
+        let said = eqtrace_carry::unreadable(self.workspace, 0, out);
+        Stepped {
+            cursor: Cursor {
+                workspace: said.workspace,
+                at: input.len(),
+                ..self
+            },
+            length: said.length,
+        }
     }
-    if INPUT < input.len() {
-        return Left::TooLong;
+
+    // The order that begins here, and the cursor behind it.
+    fn order(self, input: &[u8], lent: &mut Buffers) -> Stepped
+        requires { (self.at < length input.now) × (length input.now ≤ input_limit) × (self.number ≤ input_limit) }
+        ensures { OrderAt self input.now lent.old.proof lent.new.proof lent.old.out lent.new.out result }
+    {
+        let e = eqtrace_script::line_end(input, self.at);
+        let carried = eqtrace_carry::carry_out(
+            self.workspace,
+            &input[self.at..e],
+            self.number,
+            &mut lent.proof,
+            &mut lent.names,
+            &mut lent.out,
+        );
+        let next = eqtrace_script::next_place(self.keep, carried.refused, e, input.len());
+        Stepped {
+            cursor: Cursor {
+                workspace: carried.workspace,
+                at: next,
+                number: self.number + 1,
+                ..self
+            },
+            length: carried.length,
+        }
     }
-    Left::Order
 }
 
 // Where an input's first order to answer begins: behind a first line `K`, which is order 1 and keeps going, or at the first byte.
+#[tactic(auto, using(crate::proofs::StepLaws::cursor_begun))]
 pub fn begin(input: &[u8]) -> Cursor
     ensures { result ≡ beginning input.now }
 {
@@ -82,83 +139,16 @@ pub fn begin(input: &[u8]) -> Cursor
     }
 }
 
-// The one answer to an input that is too long.
-fn too_long(
-    keep: bool,
-    w: Workspace,
-    end: usize,
-    i: u32,
-    names: &mut [u16],
-    out: &mut [u8],
-) -> Stepped
-    requires { (length names.old ≡ line_limit) × (answer_room ≤ length out.old) }
-    ensures { TooLong keep w end i out.old out.new result }
+// One order, from its line to its text at the start of `lent.out`. Where nothing is left, the cursor stays and the text is empty.
+pub fn step(c: Cursor, input: &[u8], lent: &mut Buffers) -> Stepped
+    ensures { Steps c input.now lent.old.proof lent.new.proof lent.old.out lent.new.out result }
 {
-    let carried = eqtrace_carry::unreadable(w, 0, names, out);
-    let v = carried.workspace;
-    Stepped {
-        cursor: Cursor {
-            keep: keep,
-            workspace: v,
-            at: end,
-            number: i,
-        },
-        length: carried.length,
-    }
-}
-
-// The order at `at`, and the cursor behind it.
-fn order_at<'a>(
-    keep: bool,
-    w: Workspace,
-    input: &'a [u8],
-    at: usize,
-    i: u32,
-    proof: &mut [u8],
-    names: &mut [u16],
-    out: &mut [u8],
-) -> Stepped
-    requires { (at < length input.now) × (length input.now ≤ input_limit) × (i ≤ input_limit) × (length proof.old ≡ buffer_bytes) × (length names.old ≡ line_limit) × (answer_room ≤ length out.old) }
-    ensures { OrderAt keep w input.now at i proof.old proof.new out.old out.new result }
-{
-    let e = eqtrace_script::line_end(input, at);
-    let carried = eqtrace_carry::carry_out(w, &input[at..e], i, proof, names, out);
-    let after = carried.workspace;
-    let next = eqtrace_script::next_place(keep, carried.refused, e, input.len());
-    Stepped {
-        cursor: Cursor {
-            keep: keep,
-            workspace: after,
-            at: next,
-            number: i + 1,
-        },
-        length: carried.length,
-    }
-}
-
-// One order, from its line to its text at the start of `out`. Where nothing is left, the cursor stays and the text is empty.
-pub fn step<'a>(
-    c: Cursor,
-    input: &'a [u8],
-    proof: &mut [u8; 65536],
-    names: &mut [u16; 8192],
-    out: &mut [u8; 49184],
-) -> Stepped
-    ensures { Steps c input.now proof.old proof.new out.old out.new result }
-{
-    let keep = c.keep;
-    let w = c.workspace;
-    let at = c.at;
-    let i = c.number;
-    let p: &mut [u8] = proof;
-    let n: &mut [u16] = names;
-    let o: &mut [u8] = out;
-    match left_at(input, at, i) {
+    match c.left(input) {
         Left::Nothing => Stepped {
             cursor: c,
             length: 0,
         },
-        Left::TooLong => too_long(keep, w, input.len(), i, n, o),
-        Left::Order => order_at(keep, w, input, at, i, p, n, o),
+        Left::TooLong => c.too_long(input, &mut lent.out),
+        Left::Order => c.order(input, lent),
     }
 }

@@ -14,12 +14,11 @@ use borrow.Author.Tests.{ltb-true, ltb-false, leb-false, ne_eqb}
 use Rattle.graph.specs.Limits.{node_limit, child_limit, equation_limit, buffer_bytes}
 use Rattle.graph.specs.State.{Node, Equation, State, name_held}
 use Rattle.graph.specs.Book.{Call, declare, equate, Transition, all_below, children_of, node_fits, early, Late, Else, Refusal, accepted, answer, Runs, over, step}
-use Rattle.base.proofs.AbsurdLaws.{zero_is_one}
-use Rattle.base.proofs.BoolLaws.{and_left, and_right}
+use Rattle.std.proofs.lemmas.Bool.{and_parts}
 
 -- a call that the lists refuse is refused
 refused_so : (o : Option ℕ) (L : ℕ → Type 0) (n : ℕ) → o ≡ some (suc n) → Else o L 0 → ⊥
-refused_so none L n e v = zero_is_one cc
+refused_so none L n e v = cc
 refused_so (some m) L n e v = let q : m ≡ suc n = cc in omega arith
 
 -- when declare is refused by the lists, in document 01's order
@@ -98,8 +97,8 @@ module _ (s : State) where
       go false true false true p q r t = absurd (no 6 (equations_full s e room p q r t))
       go false true false false p q r t = record {
         buffer = ltb-false room buffer_bytes p;
-        left_known = ltb-true _ _ (and_left (ltb e.left (length s.nodes)) (ltb e.right (length s.nodes)) q);
-        right_known = ltb-true _ _ (and_right (ltb e.left (length s.nodes)) (ltb e.right (length s.nodes)) q);
+        left_known = ltb-true _ _ (and_parts _ _ q).0;
+        right_known = ltb-true _ _ (and_parts _ _ q).1;
         fresh = r;
         place = leb-false equation_limit (length s.equations) t;
       }

@@ -20,8 +20,7 @@ use borrow.Author.Tests.{eqb-true, eqb-false, lt-leb, le-ltb}
 use Rattle.graph.specs.Limits.{node_limit, child_limit}
 use Rattle.graph.specs.State.{Node, variable, functor, State, EqualLabels, OneArity}
 use Rattle.graph.specs.Book.{Call, declare, equate, withdraw, clear, Transition, all_below, children_of, arity_fits, node_fits, Late, Else, Refusal, accepted, Runs}
-use Rattle.base.proofs.AbsurdLaws.{zero_is_one, true_is_false}
-use Rattle.base.proofs.BoolLaws.{untrue_false}
+use Rattle.std.proofs.lemmas.Bool.{false_from_ne_true}
 use Rattle.base.specs.Tells.{Tells}
 use Rattle.base.proofs.TellLaws.{tells_yes, tells_not, tells_same, tells_both, tells_true}
 use Rattle.base.proofs.ListLaws.{found_append, found_last, found_snoc}
@@ -43,7 +42,7 @@ module _ (f k : ℕ) where
       go false c p q = tells_yes (λ e. absurd (eqb-false g f p e))
 
   after_variable : (ns : List Node) → AllFit ns → AllFit (variable ∷ ns)
-  after_variable ns A zero ds h = zero_is_one cc
+  after_variable ns A zero ds h = cc
   after_variable ns A (suc v) ds h = A v ds h
 
   after_functor : (g : ℕ) (es : List ℕ) (ns : List Node) → (g ≡ f → length es ≡ k) × AllFit ns → AllFit (functor g es ∷ ns)
@@ -54,7 +53,7 @@ module _ (f k : ℕ) where
   after_functor g es ns A (suc v) ds h = A.1 v ds h
 
   pub fits_exact : (ns : List Node) → Tells (AllFit ns) (arity_fits f k ns)
-  fits_exact [] = tells_yes (λ v ds h. zero_is_one cc)
+  fits_exact [] = tells_yes (λ v ds h. cc)
   fits_exact (variable ∷ ns) = tells_same (after_variable ns) (λ A v. A (suc v)) (fits_exact ns)
   fits_exact (functor g es ∷ ns) = tells_same (after_functor g es ns) (λ A. (λ q. A 0 es cc, λ v. A (suc v))) (tells_both (own_fits g es) (fits_exact ns))
 
@@ -72,7 +71,7 @@ module _ (f k : ℕ) where
   later n ns m = (suc m.0, m.1, m.2, m.3)
 
   pub misfit : (ns : List Node) → arity_fits f k ns ≡ false → Misfit ns
-  misfit [] a = true_is_false a
+  misfit [] a = cc
   misfit (variable ∷ ns) a = later variable ns (misfit ns a)
   misfit (functor g es ∷ ns) a = go (eqb g f) (eqb (length es) k) refl refl a (λ b. later (functor g es) ns (misfit ns b))
     where
@@ -87,7 +86,7 @@ module _ (f k : ℕ) where
     where
       go : (b : Bool) → eqb (length ds) k ≡ b → b ≡ arity_fits f k ns
       go true e = sym (at_fits ns (λ w es q. O w v f es ds q h ∙ eqb-true (length ds) k e))
-      go false e = sym (untrue_false (arity_fits f k ns) (λ a. eqb-false (length ds) k e (fits_at ns v ds a h)))
+      go false e = sym (false_from_ne_true (arity_fits f k ns) (λ a. eqb-false (length ds) k e (fits_at ns v ds a h)))
 
   pub fits_snoc : (ns : List Node) (n : Node) → arity_fits f k (ns ++ (n ∷ [])) ≡ arity_fits f k ns && arity_fits f k (n ∷ [])
   fits_snoc [] n = refl
@@ -107,7 +106,7 @@ equal_arities ns O u v f g cs ds p q e = O u v f cs ds p (rw e q)
 -- ---- one node more
 
 pub one_arity_empty : OneArity []
-one_arity_empty u v f cs ds h k = zero_is_one cc
+one_arity_empty u v f cs ds h k = cc
 
 module _ (ns : List Node) (n : Node) where
   pub one_arity_declared : node_fits n ns ≡ true → OneArity ns → OneArity (ns ++ (n ∷ []))
@@ -146,11 +145,11 @@ module _ (s : State) where
   pub eighteen_so : (f : ℕ) (cs : List ℕ) → length s.nodes < node_limit → length cs ≤ child_limit → all_below (length s.nodes) cs ≡ true
       → Misfit f (length cs) s.nodes → Refusal s (declare (functor f cs)) 18
   eighteen_so f cs h k a m =
-      let b : arity_fits f (length cs) s.nodes ≡ false = untrue_false _ (λ t. m.3 (fits_at f (length cs) s.nodes m.0 m.1 t m.2)) in
+      let b : arity_fits f (length cs) s.nodes ≡ false = false_from_ne_true _ (λ t. m.3 (fits_at f (length cs) s.nodes m.0 m.1 t m.2)) in
       rw (arity_differs s (functor f cs) (lt-leb node_limit (length s.nodes) h) (le-ltb child_limit (length cs) k) a b) refl
 
   pub variable_fits : Refusal s (declare variable) 18 → ⊥
-  variable_fits v = true_is_false (eighteen variable v)
+  variable_fits v = cc (eighteen variable v)
 
 pub one_arity_accepted : (s : State) → OneArity s.nodes → (c : Call) → Refusal s c 0 → OneArity (accepted s c).state.nodes
 one_arity_accepted s O (declare n) v = one_arity_declared s.nodes n (declare_accepted s n v).fits O

@@ -10,7 +10,6 @@ use borrow.Author.Tests.{eq-eqb}
 use Rattle.graph.specs.State.{Equation, State, name_held}
 use Rattle.graph.specs.Lines.{Line, Claim, try, need, named, claim_of_equation, by_equation, tidy, by_rule, claim_of, LineClaims, all, broken, on_all, more, line_claims}
 use Rattle.graph.specs.Goals.{Goal, ended, passed, judge_end, Passes, Cites}
-use Rattle.base.proofs.AbsurdLaws.{zero_is_one}
 
 -- Q where something is there
 abbrev If : {A : Type 0} → Type 0 → Option A → Type 0
@@ -19,7 +18,7 @@ If Q (some a) = Q
 
 named_known : (es : List Equation) (n : ℕ) (o : Option Claim) → try (named es n) claim_of_equation ≡ o → If (name_held n es ≡ true) o
 named_known [] n none h = tt
-named_known [] n (some c) h = zero_is_one cc
+named_known [] n (some c) h = cc
 named_known (e ∷ es) n o h = go (eqb e.name n) o h (named_known es n o)
   where
     go : (t : Bool) (o : Option Claim) → try (cond t (some e) (named es n)) claim_of_equation ≡ o → (try (named es n) claim_of_equation ≡ o → If (name_held n es ≡ true) o)
@@ -56,7 +55,7 @@ module _ (s : State) where
 
   lines_cite : (done : List Claim) (ls : List Line) → IfCited ls (line_claims s done ls)
   unfolding IfCited
-  lines_cite done [] = λ i l h e. zero_is_one cc
+  lines_cite done [] = λ i l h e. cc
   lines_cite done (l ∷ ls) = go (claim_of s done l) (line_cites done l) (λ next. lines_cite next ls)
     where
       go : (o : Option Claim) → (l.rule ≡ 1 → If (name_held l.first s.equations ≡ true) o) → ((next : List Claim) → IfCited ls (line_claims s next ls))
@@ -70,4 +69,4 @@ module _ (s : State) where
     where
       go : (r : LineClaims) → judge_end s.nodes g (ended r) ≡ passed → IfCited ls r → Cites s ls
       go (all cs) q w = w
-      go (broken k) q w = zero_is_one cc
+      go (broken k) q w = cc

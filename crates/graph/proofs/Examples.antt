@@ -14,7 +14,6 @@ use Rattle.graph.specs.Lines.{Line, tidy, by_rule, claim_of}
 use Rattle.graph.specs.Goals.{clash_goal, cycle_goal, same_goal}
 use Rattle.graph.specs.Book.{over, step}
 use Rattle.graph.specs.Examples.{equation_line, child_line, turned_line, joined_line, down_line, ExampleRun, program, e11, program_calls, program_replies, Starred, types, a_b, c_g, SectionTwo, siblings, parents, congruent, Nothing, Untidy, Broken, Refusals, Arities, Examples}
-use Rattle.base.proofs.AbsurdLaws.{zero_is_one}
 use Rattle.base.proofs.ListLaws.{found_take, found_snoc}
 use Rattle.graph.proofs.SolutionLaws.{Fewer, solution_fewer, proper_fewer, solution_verdict}
 use Rattle.graph.proofs.SoundLaws.{judge_sound}
@@ -25,7 +24,7 @@ use Rattle.graph.proofs.SolutionTest.{solution_ok, proper_ok, clash_verdict, cyc
 
 -- without equations each node is alone
 alone : (ns : List Node) {u v : ℕ} → Same (state_with ns []) u v → u ≡ v
-alone ns (equation w) = zero_is_one (cc w.1)
+alone ns (equation w) = cc w.1
 alone ns (reflexivity k) = refl
 alone ns (symmetry p) = sym (alone ns p)
 alone ns (transitivity p q) = alone ns p ∙ alone ns q

@@ -13,7 +13,6 @@ use borrow.Author.Tests.{ne_eqb, eqb-false}
 use Rattle.graph.specs.State.{Equation, State, state_with, name_held}
 use Rattle.graph.specs.Book.{removed}
 use Rattle.graph.proofs.SolutionLaws.{Fewer}
-use Rattle.base.proofs.AbsurdLaws.{zero_is_one}
 
 -- what is left after a withdrawal stood there before
 pub removed_in : (n : ℕ) (es : List Equation) (i : ℕ) (e : Equation) → get_elem? (removed n es) i ≡ some e → (j : ℕ) × (get_elem? es j ≡ some e)
@@ -69,7 +68,7 @@ distinct_snoc (d ∷ es) e w h = go (eqb d.name e.name) refl h (distinct_snoc es
   where
     go : (t : Bool) → eqb d.name e.name ≡ t → cond t true (name_held e.name es) ≡ false → (name_held e.name es ≡ false → Distinct (es ++ (e ∷ [])))
         → Distinct ((d ∷ es) ++ (e ∷ []))
-    go true q h r = zero_is_one cc
+    go true q h r = cc
     go false q h r = (held_snoc d.name es e w.0 (λ p. eqb-false d.name e.name q (sym p)), r h)
 
 pub distinct_removed : (n : ℕ) (es : List Equation) → Distinct es → Distinct (removed n es)

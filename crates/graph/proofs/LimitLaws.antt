@@ -10,7 +10,6 @@ use lib.ListN.{length, length-append}
 use Rattle.graph.specs.Limits.{node_limit, child_limit, equation_limit}
 use Rattle.graph.specs.State.{Node, State, empty_state, NodeAt}
 use Rattle.graph.specs.Book.{Call, declare, equate, withdraw, clear, Transition, children_of, Refusal, accepted, answer, Runs}
-use Rattle.base.proofs.AbsurdLaws.{zero_is_one}
 use Rattle.base.proofs.ListLaws.{found_snoc}
 use Rattle.graph.proofs.HeldLaws.{removed_length, Distinct, distinct_snoc, distinct_removed}
 use Rattle.graph.proofs.AcceptLaws.{declare_accepted, equate_accepted, answer_keeps, runs_keep}
@@ -25,7 +24,7 @@ pub limits_empty : Limits empty_state
 limits_empty = record {
   nodes_fit = omega arith;
   equations_fit = omega arith;
-  few_children = λ u n h. zero_is_one cc;
+  few_children = λ u n h. cc;
   names_differ = tt;
 }
 

@@ -1,5 +1,5 @@
 -- What a lookup of the checker's definition that found something says.
---   IfSome, All                      a property of what is there, if anything is; of each element
+--   IfSome                           a property of what is there, if anything is
 --   named_held, functor_at_lem       an equation found by its name is held; a functor found stands there
 --   labels_equal, equal_labels_lem   the label test says what equal labels are
 use mathlib.Core.Path.{◌≡◌, refl, subst}
@@ -9,21 +9,16 @@ use mathlib.Core.Option.{Option, none, some}
 use Prim.Native.Nat.{ℕ, zero, suc}
 use lib.ListN.{get_elem?}
 use lib.Dec.{eqb}
+use Rattle.std.specs.List.{AllByRecursion as All}
 use Rattle.graph.specs.State.{Node, variable, functor, Equation, EqualLabels}
 use Rattle.graph.specs.Lines.{try, need, named, Functor, functor_of, functor_at, equal_labels}
 use Rattle.base.specs.Tells.{Tells}
-use Rattle.base.proofs.AbsurdLaws.{zero_is_one}
 use Rattle.base.proofs.TellLaws.{tells_eq, tells_true}
 
 -- P of what is there, if anything is
 abbrev pub IfSome : {A : Type 0} → (A → Type 0) → Option A → Type 0
 IfSome P none = Unit {0}
 IfSome P (some a) = P a
-
--- P of each element
-abbrev pub All : {A : Type 0} → (A → Type 0) → List A → Type 0
-All P [] = Unit {0}
-All P (x ∷ xs) = P x × All P xs
 
 module _ {A : Type 0} (P : A → Type 0) where
   pub need_ok : (t : Bool) (o : Option A) → (t ≡ true → IfSome P o) → IfSome P (need t o)
@@ -39,7 +34,7 @@ module _ {A : Type 0} (P : A → Type 0) where
   try_ok (some x) f h = h x refl
 
   pub all_at : (l : List A) → All P l → (i : ℕ) (a : A) → get_elem? l i ≡ some a → P a
-  all_at [] w i a h = zero_is_one cc
+  all_at [] w i a h = cc
   all_at (x ∷ xs) w zero a h = let e : x ≡ a = cc in subst P e w.0
   all_at (x ∷ xs) w (suc i) a h = all_at xs w.1 i a h
 
@@ -50,7 +45,7 @@ module _ {A : Type 0} (P : A → Type 0) where
 -- ---- what a lookup that found something says
 
 pub named_held : (es : List Equation) (n : ℕ) (e : Equation) → named es n ≡ some e → (i : ℕ) × (get_elem? es i ≡ some e)
-named_held [] n e h = zero_is_one cc
+named_held [] n e h = cc
 named_held (d ∷ es) n e h = go (eqb d.name n) h (named_held es n e)
   where
     go : (t : Bool) → cond t (some d) (named es n) ≡ some e → (named es n ≡ some e → (i : ℕ) × (get_elem? es i ≡ some e))
@@ -62,8 +57,8 @@ pub functor_at_lem : (ns : List Node) (u : ℕ) (k : Functor) → functor_at ns 
 functor_at_lem ns u k h = go (get_elem? ns u) h
   where
     go : (o : Option Node) → try o functor_of ≡ some k → o ≡ some (functor k.symbol k.children)
-    go none q = zero_is_one cc
-    go (some variable) q = zero_is_one cc
+    go none q = cc
+    go (some variable) q = cc
     go (some (functor f cs)) q = cc
 
 -- the label test says what equal labels are

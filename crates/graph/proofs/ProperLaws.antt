@@ -13,7 +13,6 @@ use lib.Dec.{ltb}
 use borrow.Author.Tests.{ltb-true}
 use Rattle.graph.specs.State.{Node, functor, Equation, State, state_with, empty_state, Proper, offered}
 use Rattle.graph.specs.Book.{Call, declare, equate, withdraw, clear, Transition, removed, all_below, children_of, Refusal, accepted, answer, Runs}
-use Rattle.base.proofs.AbsurdLaws.{zero_is_one}
 use Rattle.base.proofs.ListLaws.{found_snoc}
 use Rattle.graph.proofs.SolutionLaws.{proper_fewer}
 use Rattle.graph.proofs.HeldLaws.{removed_fewer}
@@ -21,20 +20,20 @@ use Rattle.graph.proofs.AcceptLaws.{declare_accepted, equate_accepted, answer_ke
 
 -- numbers that are all below k: each is
 pub below_at : (k : ℕ) (cs : List ℕ) (i v : ℕ) → all_below k cs ≡ true → get_elem? cs i ≡ some v → v < k
-below_at k [] i v a h = zero_is_one cc
+below_at k [] i v a h = cc
 below_at k (c ∷ cs) i v a h = go (ltb c k) refl i a h (below_at k cs)
   where
     go : (t : Bool) → ltb c k ≡ t → (i : ℕ) → t && all_below k cs ≡ true → get_elem? (c ∷ cs) i ≡ some v
         → ((i v : ℕ) → all_below k cs ≡ true → get_elem? cs i ≡ some v → v < k) → v < k
     go true e zero a h r = let q : c ≡ v = cc in subst (λ (x : ℕ). x < k) q (ltb-true c k e)
     go true e (suc i) a h r = r i v a h
-    go false e i a h r = zero_is_one cc
+    go false e i a h r = cc
 
 pub proper_empty : Proper empty_state
 proper_empty = record {
-  earlier = λ u f i v cs n c. zero_is_one cc;
-  left_known = λ e h. zero_is_one (cc h.1);
-  right_known = λ e h. zero_is_one (cc h.1);
+  earlier = λ u f i v cs n c. cc;
+  left_known = λ e h. cc h.1;
+  right_known = λ e h. cc h.1;
 }
 
 module _ (s : State) (P : Proper s) where

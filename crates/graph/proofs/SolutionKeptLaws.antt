@@ -15,9 +15,8 @@ use Rattle.graph.specs.State.{Node, functor, Equation, State, state_with, empty_
 use Rattle.graph.specs.Solution.{Classes, Solution}
 use Rattle.graph.specs.Book.{declare, equate, withdraw, clear, removed, all_below, children_of, Refusal, answer}
 use Rattle.base.specs.Sum.{sum_to}
-use Rattle.base.proofs.AbsurdLaws.{zero_is_one}
+use Rattle.std.proofs.lemmas.Bool.{cases_lt}
 use Rattle.base.proofs.ListLaws.{found_lt, found_snoc}
-use Rattle.base.proofs.CaseLaws.{below_or_from}
 use Rattle.base.proofs.SumLaws.{sum_at}
 use Rattle.graph.proofs.SolutionLaws.{solution_fewer}
 use Rattle.graph.proofs.HeldLaws.{removed_fewer}
@@ -29,12 +28,12 @@ solution_empty = record {
   classes = record {
     class = λ u. 0;
     equated = λ e h. refl;
-    label = λ u v f g cs ds m. zero_is_one cc;
-    place = λ u v f g i x y cs ds m. zero_is_one cc;
+    label = λ u v f g cs ds m. cc;
+    place = λ u v f g i x y cs ds m. cc;
   };
   height = λ u. 0;
   level = λ u v p q e. refl;
-  lower = λ u f i v cs m. zero_is_one cc;
+  lower = λ u f i v cs m. cc;
 }
 
 pub solution_removed : (s : State) (n : ℕ) → Solution s → Solution (state_with s.nodes (removed n s.equations))
@@ -101,7 +100,7 @@ module _ (s : State) (P : Proper s) (S : Solution s) (n : Node) (a : all_below (
 
   split : (u : ℕ) → u < length (s.nodes ++ (n ∷ [])) → (u < length s.nodes) ⊎ (u ≡ length s.nodes)
   split u h =
-      ⊎_elim (λ l. inl l) (λ l. inr (omega (arith, l, length-append s.nodes (n ∷ [])))) (below_or_from (length s.nodes) u)
+      ⊎_elim (λ l. inl l) (λ l. inr (omega (arith, l, length-append s.nodes (n ∷ [])))) (cases_lt u (length s.nodes))
 
   pub solution_declared : Solution (state_with (s.nodes ++ (n ∷ [])) s.equations)
   unfolding classes

@@ -14,9 +14,8 @@ use Rattle.graph.specs.Solution.{Classes, Solution}
 use Rattle.graph.specs.Verdict.{Verdict, clashes, cycles}
 use Rattle.graph.specs.Lines.{Line}
 use Rattle.graph.specs.Goals.{clash_goal, cycle_goal, Passes}
-use Rattle.base.proofs.AbsurdLaws.{zero_is_one}
+use Rattle.std.proofs.lemmas.Bool.{and_parts}
 use Rattle.base.proofs.ListLaws.{lt_found}
-use Rattle.base.proofs.BoolLaws.{and_left, and_right, then_true}
 use Rattle.graph.proofs.SolutionLaws.{same_class, classes_no_clash, solution_verdict}
 use Rattle.graph.proofs.SoundLaws.{judge_sound}
 
@@ -80,25 +79,23 @@ is_proper s = lower_test (λ u. u) s && ends_test s
 
 each_at : {A : Type 0} (f : ℕ → A → Bool) (l : List A) → each f l ≡ true → (i : ℕ) (a : A) → get_elem? l i ≡ some a → f i a ≡ true
 each_at f [] e i a q = cc
-each_at f (x ∷ xs) e zero a q = let p : x ≡ a = cc in rw (← p) (and_left (f 0 x) _ e)
-each_at f (x ∷ xs) e (suc i) a q = each_at (λ j. f (suc j)) xs (and_right (f 0 x) _ e) i a q
+each_at f (x ∷ xs) e zero a q = let p : x ≡ a = cc in rw (← p) (and_parts _ _ e).0
+each_at f (x ∷ xs) e (suc i) a q = each_at (λ j. f (suc j)) xs (and_parts _ _ e).1 i a q
 
 places_at : (c : ℕ → ℕ) (cs ds : List ℕ) → same_places c cs ds ≡ true → (i x y : ℕ) → ChildAt cs i x → ChildAt ds i y → c x ≡ c y
-places_at c [] ds e i x y p q = zero_is_one cc
-places_at c (a ∷ cs) [] e i x y p q = zero_is_one cc
+places_at c [] ds e i x y p q = cc
+places_at c (a ∷ cs) [] e i x y p q = cc
 places_at c (a ∷ cs) (d ∷ ds) e zero x y p q =
-    let k : c a ≡ c d = eqb-true (c a) (c d) (and_left (eqb (c a) (c d)) (same_places c cs ds) e) in cc
-places_at c (a ∷ cs) (d ∷ ds) e (suc i) x y p q = places_at c cs ds (and_right (eqb (c a) (c d)) (same_places c cs ds) e) i x y p q
+    let k : c a ≡ c d = eqb-true (c a) (c d) (and_parts _ _ e).0 in cc
+places_at c (a ∷ cs) (d ∷ ds) e (suc i) x y p q = places_at c cs ds (and_parts _ _ e).1 i x y p q
 
 agree_label : (c : ℕ → ℕ) (f g : ℕ) (cs ds : List ℕ) → agree c (functor f cs) (functor g ds) ≡ true → EqualLabels f g
-agree_label c f g cs ds e = eqb-true f g (and_left (eqb f g) (same_places c cs ds) e)
+agree_label c f g cs ds e = eqb-true f g (and_parts _ _ e).0
 
 module _ (s : State) (c : ℕ → ℕ) (e-ok : equated_test c s ≡ true) (p-ok : pairs_test c s ≡ true) where
   pair_at : (u v : ℕ) (n m : Node) → NodeAt s u n → NodeAt s v m → c u ≡ c v → agree c n m ≡ true
   pair_at u v n m p q k =
-      then_true (eqb (c u) (c v)) (agree c n m)
-      (each_at (pair_test c u n) s.nodes (each_at (λ x o. each (pair_test c x o) s.nodes) s.nodes p-ok u n p) v m q)
-      (eq-eqb (c u) (c v) k)
+      cc (each_at (pair_test c u n) s.nodes (each_at (λ x o. each (pair_test c x o) s.nodes) s.nodes p-ok u n p) v m q, eq-eqb (c u) (c v) k)
 
   abbrev tested : Classes s
   tested = record {
@@ -106,7 +103,7 @@ module _ (s : State) (c : ℕ → ℕ) (e-ok : equated_test c s ≡ true) (p-ok 
     equated = λ e w. eqb-true (c e.left) (c e.right) (each_at (λ j d. eqb (c d.left) (c d.right)) s.equations e-ok w.0 e w.1);
     label = λ u v f g xs ys p q k. agree_label c f g xs ys (pair_at u v (functor f xs) (functor g ys) p q k);
     place = λ u v f g j x y xs ys p q k w z.
-        places_at c xs ys (and_right (eqb f g) (same_places c xs ys) (pair_at u v (functor f xs) (functor g ys) p q k)) j x y w z;
+        places_at c xs ys (and_parts _ _ (pair_at u v (functor f xs) (functor g ys) p q k)).1 j x y w z;
   }
 
 level_at : (s : State) (c h : ℕ → ℕ) → level_test c h s ≡ true → (u v : ℕ) → IsNode s u → IsNode s v → c u ≡ c v → h u ≡ h v
@@ -114,11 +111,12 @@ level_at s c h ok u v p q k =
     let n = lt_found s.nodes u p in
     let m = lt_found s.nodes v q in
     eqb-true (h u) (h v)
-    (then_true (eqb (c u) (c v)) (eqb (h u) (h v))
-    (each_at (λ y o. not (eqb (c u) (c y)) || eqb (h u) (h y)) s.nodes
-    (each_at (λ x r. each (λ y o. not (eqb (c x) (c y)) || eqb (h x) (h y)) s.nodes) s.nodes ok u n.0 n.1)
-    v m.0 m.1)
-    (eq-eqb (c u) (c v) k))
+    (cc (
+      each_at (λ y o. not (eqb (c u) (c y)) || eqb (h u) (h y)) s.nodes
+          (each_at (λ x r. each (λ y o. not (eqb (c x) (c y)) || eqb (h x) (h y)) s.nodes) s.nodes ok u n.0 n.1)
+          v m.0 m.1,
+      eq-eqb (c u) (c v) k,
+    ))
 
 lower_at : (s : State) (h : ℕ → ℕ) → lower_test h s ≡ true → (u f j v : ℕ) (xs : List ℕ) → NodeAt s u (functor f xs) → ChildAt xs j v → h v < h u
 lower_at s h ok u f j v xs p w =
@@ -126,16 +124,16 @@ lower_at s h ok u f j v xs p w =
 
 abbrev classes_ok : (s : State) (cs : List ℕ) → is_classes s cs ≡ true → Classes s
 classes_ok s cs e =
-    tested s (at cs) (and_left (equated_test (at cs) s) (pairs_test (at cs) s) e) (and_right (equated_test (at cs) s) (pairs_test (at cs) s) e)
+    let p = and_parts _ _ e in tested s (at cs) p.0 p.1
 
 pub solution_ok : (s : State) (cs hs : List ℕ) → is_solution s cs hs ≡ true → Solution s
 solution_ok s cs hs e =
-    let r = and_right (is_classes s cs) (level_test (at cs) (at hs) s && lower_test (at hs) s) e in
+    let r = (and_parts _ _ e).1 in
     record {
-      classes = classes_ok s cs (and_left (is_classes s cs) (level_test (at cs) (at hs) s && lower_test (at hs) s) e);
+      classes = classes_ok s cs (and_parts _ _ e).0;
       height = at hs;
-      level = level_at s (at cs) (at hs) (and_left (level_test (at cs) (at hs) s) (lower_test (at hs) s) r);
-      lower = lower_at s (at hs) (and_right (level_test (at cs) (at hs) s) (lower_test (at hs) s) r);
+      level = level_at s (at cs) (at hs) (and_parts _ _ r).0;
+      lower = lower_at s (at hs) (and_parts _ _ r).1;
     }
 
 ends_at : (s : State) → ends_test s ≡ true → (e : Equation) → Held s e → ltb e.left (length s.nodes) && ltb e.right (length s.nodes) ≡ true
@@ -143,11 +141,11 @@ ends_at s ok e w = each_at (λ j d. ltb d.left (length s.nodes) && ltb d.right (
 
 pub proper_ok : (s : State) → is_proper s ≡ true → Proper s
 proper_ok s ok =
-    let r = and_right (lower_test (λ u. u) s) (ends_test s) ok in
+    let r = (and_parts _ _ ok).1 in
     record {
-      earlier = lower_at s (λ u. u) (and_left (lower_test (λ u. u) s) (ends_test s) ok);
-      left_known = λ e w. ltb-true e.left (length s.nodes) (and_left (ltb e.left (length s.nodes)) (ltb e.right (length s.nodes)) (ends_at s r e w));
-      right_known = λ e w. ltb-true e.right (length s.nodes) (and_right (ltb e.left (length s.nodes)) (ltb e.right (length s.nodes)) (ends_at s r e w));
+      earlier = lower_at s (λ u. u) (and_parts _ _ ok).0;
+      left_known = λ e w. ltb-true e.left (length s.nodes) (and_parts _ _ (ends_at s r e w)).0;
+      right_known = λ e w. ltb-true e.right (length s.nodes) (and_parts _ _ (ends_at s r e w)).1;
     }
 
 -- ---- verdicts, by what computes

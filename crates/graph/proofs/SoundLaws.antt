@@ -14,9 +14,9 @@ use Rattle.graph.specs.State.{functor, State, NodeAt}
 use Rattle.graph.specs.Closure.{Same, equation, reflexivity, symmetry, transitivity, down, Below, child, same_below, below_same, below_below, Clash}
 use Rattle.graph.specs.Lines.{Line, Claim, same, below, Holds, named, Functor, functor_at, equal_labels, claim_of_equation, by_equation, by_child, by_reflexivity, symmetry_of, transitivity_of, down_to, down_of, tidy, by_rule, claim_of, LineClaims, all, broken, on_all, more, line_claims}
 use Rattle.graph.specs.Goals.{Goal, clash_goal, cycle_goal, same_goal, below_goal, Meaning, labels_differ, shows, Ended, ends, breaks, empty, last_of, ended, passed, refused, judge_end, Passes}
-use Rattle.base.proofs.AbsurdLaws.{zero_is_one}
-use Rattle.base.proofs.BoolLaws.{and_left, and_right, not-true}
-use Rattle.graph.proofs.LookupLaws.{IfSome, All, need_ok, cond_ok, try_ok, all_at, all_snoc, named_held, functor_at_lem, labels_equal, equal_labels_lem}
+use Rattle.std.proofs.lemmas.Bool.{and_parts}
+use Rattle.std.specs.List.{AllByRecursion as All}
+use Rattle.graph.proofs.LookupLaws.{IfSome, need_ok, cond_ok, try_ok, all_at, all_snoc, named_held, functor_at_lem, labels_equal, equal_labels_lem}
 
 -- ---- each rule is sound
 
@@ -94,8 +94,8 @@ module _ (s : State) where
   -- ---- what a claim shows
 
   differ_ok : (u v : ℕ) → Same s u v → (o p : Option Functor) → functor_at s.nodes u ≡ o → functor_at s.nodes v ≡ p → labels_differ o p ≡ true → Clash s
-  differ_ok u v h none p q r e = zero_is_one cc
-  differ_ok u v h (some k) none q r e = zero_is_one cc
+  differ_ok u v h none p q r e = cc
+  differ_ok u v h (some k) none q r e = cc
   differ_ok u v h (some k) (some m) q r e = record {
     u = u;
     v = v;
@@ -105,19 +105,19 @@ module _ (s : State) where
     ds = m.children;
     at_u = functor_at_lem s.nodes u k q;
     at_v = functor_at_lem s.nodes v m r;
-    differ = λ w. not-true (equal_labels k m) e (equal_labels_lem k m w);
+    differ = λ w. cc (equal_labels_lem k m w);
     joins = h;
   }
 
   pub shows_ok : (g : Goal) (c : Claim) → Holds s c → shows s.nodes g c ≡ true → Meaning s g
   shows_ok clash_goal (same u v) h e = differ_ok u v h (functor_at s.nodes u) (functor_at s.nodes v) refl refl e
-  shows_ok clash_goal (below u v) h e = zero_is_one cc
-  shows_ok cycle_goal (same u v) h e = zero_is_one cc
+  shows_ok clash_goal (below u v) h e = cc
+  shows_ok cycle_goal (same u v) h e = cc
   shows_ok cycle_goal (below u v) h e = record { u = u; back = rw (← eqb-true u v e) at h }
-  shows_ok (same_goal x y) (same u v) h e = rw (eqb-true x u (and_left (eqb x u) (eqb y v) e), eqb-true y v (and_right (eqb x u) (eqb y v) e)) h
-  shows_ok (same_goal x y) (below u v) h e = zero_is_one cc
-  shows_ok (below_goal x y) (same u v) h e = zero_is_one cc
-  shows_ok (below_goal x y) (below u v) h e = rw (eqb-true x u (and_left (eqb x u) (eqb y v) e), eqb-true y v (and_right (eqb x u) (eqb y v) e)) h
+  shows_ok (same_goal x y) (same u v) h e = let p = and_parts (eqb x u) (eqb y v) e in rw (eqb-true x u p.0, eqb-true y v p.1) h
+  shows_ok (same_goal x y) (below u v) h e = cc
+  shows_ok (below_goal x y) (same u v) h e = cc
+  shows_ok (below_goal x y) (below u v) h e = let p = and_parts (eqb x u) (eqb y v) e in rw (eqb-true x u p.0, eqb-true y v p.1) h
 
   abbrev IfEnds : Ended → Type 0
   IfEnds (ends c) = Holds s c
@@ -138,9 +138,9 @@ module _ (s : State) where
     where
       go : (t : Bool) → shows s.nodes g c ≡ t → cond t passed (refused 13) ≡ passed → Meaning s g
       go true r q = shows_ok g c w r
-      go false r q = zero_is_one cc
-  judge_ok g (breaks k) w q = zero_is_one cc
-  judge_ok g empty w q = zero_is_one cc
+      go false r q = cc
+  judge_ok g (breaks k) w q = cc
+  judge_ok g empty w q = cc
 
   -- what the lines that pass were to show is true
   pub judge_sound : (g : Goal) (ls : List Line) → Passes s g ls → Meaning s g

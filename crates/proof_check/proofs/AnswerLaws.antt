@@ -1,5 +1,5 @@
 -- The checker's answer, by its tests in turn, and its soundness.
-use mathlib.Core.Path.{◌≡◌, sym, ap, ◌∙◌}
+use mathlib.Core.Path.{◌≡◌, refl, sym, ap, ◌∙◌}
 use mathlib.Core.Bool.{Bool, true, false, cond}
 use mathlib.Core.List.{List, []}
 use Prim.Native.Nat.{ℕ, ◌*◌, ◌≤◌}
@@ -13,9 +13,11 @@ use Rattle.graph.proofs.CitesLaws.{passes_cites}
 use Rattle.proof_lines.specs.Codec.{lines_of}
 use Rattle.proof_lines.specs.Proof.{ProofIn}
 use Rattle.proof_lines.proofs.Decoding.{part_lines}
+use Rattle.std.specs.Prelude.{Result, Ok, Err, IsErrAnd, MatchResult}
+use Rattle.refusals.specs.declared.Refusal.{Refusal}
+use Rattle.proof_rules.specs.declared.Claim.{Claim as ClaimMade}
 use Rattle.proof_check.specs.Answers.{bad_length, answer_to}
 use Rattle.proof_check.proofs.LengthLaws.{whole_length}
-use Rattle.base.proofs.AbsurdLaws.{zero_is_one}
 
 module _ (s : State) (g : Goal) (bs : List ℕ) where
   pub answer_bad : bad_length (length bs) ≡ true → refused 11 ≡ answer_to s g bs
@@ -35,6 +37,17 @@ module _ (s : State) (g : Goal) (bs : List ℕ) where
     pub answered_end : (c : Claim) (b : Bool) → b ≡ shows s.nodes g c → ends c ≡ ended (line_claims s [] (lines_of bs)) → cond b passed (refused 13) ≡ answer_to s g bs
     answered_end c b e w = rw e (answered (ends c) w)
 
+-- how the walk ended, by what `map_err` made of it: P ties a refusal to the line that broke
+pub walk_broken : (P : ℕ → Refusal → Type 0) (w : Result ClaimMade ℕ) (r : Result ClaimMade Refusal) (x : Refusal)
+    → MatchResult w (λ c. r ≡ Ok c) (λ i. IsErrAnd r (P i)) → r ≡ Err x → (i : ℕ) × (w ≡ Err i) × P i x
+walk_broken P (Ok c) r x m e = cc
+walk_broken P (Err i) r x m e = (i, refl, rw e at m)
+
+pub walk_through : (P : ℕ → Refusal → Type 0) (w : Result ClaimMade ℕ) (r : Result ClaimMade Refusal) (c : ClaimMade)
+    → MatchResult w (λ c. r ≡ Ok c) (λ i. IsErrAnd r (P i)) → r ≡ Ok c → w ≡ Ok c
+walk_through P (Ok b) r c m e = cc
+walk_through P (Err i) r c m e = absurd (rw e at m)
+
 -- what passes is judged so
 module _ (s : State) (g : Goal) (bs : List ℕ) (e : answer_to s g bs ≡ passed) where
   pub check_passes : Passes s g (lines_of bs)
@@ -42,7 +55,7 @@ module _ (s : State) (g : Goal) (bs : List ℕ) (e : answer_to s g bs ≡ passed
   check_passes = go (bad_length (length bs)) e
     where
       go : (b : Bool) → cond b (refused 11) (judge s g (lines_of bs)) ≡ passed → Passes s g (lines_of bs)
-      go true q = zero_is_one cc
+      go true q = cc
       go false q = q
 
   -- what passes is true of the closure of held and offered

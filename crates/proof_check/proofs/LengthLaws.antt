@@ -8,7 +8,6 @@ use native.Mathlib.Omega.{arith}
 use lib.Dec.{eqb, ltb}
 use borrow.Author.Tests.{eqb-true, eqb-false, eq-eqb, ne_eqb, ltb-false, le-ltb}
 use Rattle.proof_check.specs.Answers.{bad_length}
-use Rattle.base.proofs.AbsurdLaws.{zero_is_one}
 
 -- a length that refusal 11 passes: n whole lines, from 1 to 8,192
 pub record Whole (size : ℕ) : Type 0 where
@@ -20,9 +19,9 @@ pub length_whole : (size : ℕ) → bad_length size ≡ false → Whole size
 length_whole size e = go (eqb size 0) refl (ltb 65536 size) refl (eqb (size % 8) 0) refl e
   where
     go : (a : Bool) → eqb size 0 ≡ a → (b : Bool) → ltb 65536 size ≡ b → (c : Bool) → eqb (size % 8) 0 ≡ c → a || (b || not c) ≡ false → Whole size
-    go true p b q c r e = zero_is_one cc
-    go false p true q c r e = zero_is_one cc
-    go false p false q false r e = zero_is_one cc
+    go true p b q c r e = cc
+    go false p true q c r e = cc
+    go false p false q false r e = cc
     go false p false q true r e =
         let m : size % 8 ≡ 0 = eqb-true (size % 8) 0 r in
         let d : size / 8 * 8 + size % 8 ≡ size = div-add-mod' size 8 in

@@ -12,7 +12,7 @@ ghost use Rattle.proof_rules.specs.Rules.{offer_of, claim_seen};
 ghost use Rattle.proof_claims.specs.Claims.{Fit};
 ghost use Rattle.proof_check.specs.Answers.{walked, goal_of, judged_as, bad_length, answer_to, LineWithin};
 
-use proof_rules::{Claim, ClaimKind, Labels, Offer};
+use proof_rules::{Claim, ClaimKind, Offer};
 use refusals::Refusal;
 use store::{Equations, Terms};
 
@@ -31,6 +31,8 @@ fn walk(t: &Terms, e: &Equations, offer: Option<Offer>, bytes: &[u8]) -> Result<
     ensures end { walked result ≡ ended (line_claims (with_offer (state_from t.now e.now) (offer_of offer)) [] (lines_of bytes.now)) }
     ensures within { IfErr result (λ i. i < line_limit) }
 {
+    // An array, with the loop's own index: as an `ArrayVec`, with `push` and `as_slice`, a line took 1.00 to 1.23 times Rust's time, and not 0.87
+    // to 0.94; with `push(c)`, and not field by field, 1.18 to 1.50; the goal is 1.2.
     let mut claims = [Claim::same(0, 0); 8192];
     let count = bytes.len() / 8;
     for i in 0..count {
@@ -40,7 +42,8 @@ fn walk(t: &Terms, e: &Equations, offer: Option<Offer>, bytes: &[u8]) -> Result<
         let Some(c) = proof_claims::claim(t, e, offer, &claims[..i], &l) else {
             return Err(i);
         };
-        // Field by field: with `claims[i] = c` a line takes a third longer.
+        // Field by field: with `claims[i] = c` a line took 6.6 ns and not 5.3, in the mean of four places in memory. That is 1.25 times the 5.3 that
+        // plain Rust takes where it is fastest, and the goal is 1.2.
         claims[i] = Claim {
             kind: c.kind,
             start: c.start,
@@ -63,7 +66,7 @@ fn shows_goal(t: &Terms, goal: GoalAsked, c: Claim) -> bool
 {
     match (goal, c.kind) {
         (GoalAsked::Clash, ClaimKind::Same) => {
-            proof_rules::compare_labels(t, c.start, c.end) == Labels::Differ
+            proof_rules::compare_labels(t, c.start, c.end) == Some(false)
         }
         (GoalAsked::Cycle, ClaimKind::Below) => c.start == c.end,
         (GoalAsked::Same(x, y), ClaimKind::Same) => equal_ends(x, y, c),
@@ -79,7 +82,8 @@ pub fn bad_length(size: usize) -> bool
     size == 0 || size > graph::BUFFER || size % 8 != 0
 }
 
-// Refusal 11, then 12 with the first line that breaks its rule, then 13; or the lines pass.
+// Refusal 11, then 12 with the first line that breaks its rule, then 13; or the lines pass. Offer, lines and goal are parameters of their own,
+// as document 01 hands them to the checker.
 pub fn check(
     t: &Terms,
     e: &Equations,
@@ -94,14 +98,10 @@ pub fn check(
     if bad_length(bytes.len()) {
         return Err(Refusal::BadLength);
     }
-    match walk(t, e, offer, bytes) {
-        Err(i) => Err(Refusal::BrokenLine { line: i as u16 }),
-        Ok(last) => {
-            if shows_goal(t, goal, last) {
-                Ok(())
-            } else {
-                Err(Refusal::NotShown)
-            }
-        }
+    let last = walk(t, e, offer, bytes).map_err(|i| Refusal::BrokenLine { line: i as u16 })?;
+    if shows_goal(t, goal, last) {
+        Ok(())
+    } else {
+        Err(Refusal::NotShown)
     }
 }

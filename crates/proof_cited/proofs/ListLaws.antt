@@ -1,39 +1,20 @@
 -- The noted names in a list, rising: what the loop has shown before x, and each way on.
-use mathlib.Core.Path.{◌≡◌, refl, sym, ap, ◌∙◌}
+use mathlib.Core.Path.{◌≡◌, refl, ◌∙◌}
 use mathlib.Core.Bool.{Bool, true, false}
 use mathlib.Core.List.{List}
-use mathlib.Core.Logic.{◌⊎◌, inl, inr, ⊎_elim}
 use Prim.Native.Nat.{ℕ, suc, ◌+◌, ◌*◌, ◌/◌, ◌≤◌, ◌<◌}
 use native.Mathlib.Omega.{arith}
-use lib.ListN.{length, take, get_or, set, length-set, get_or-eq_default}
+use lib.ListN.{length, take, get_or, set, length-set}
 use Rattle.std.proofs.lemmas.List.{length-take-le, get_or-take}
 use lib.Dec.{ltb}
 use lib.Seq.{get_or-set_same, get_or-set_other}
 use borrow.Author.Tests.{ltb-true, ltb-false}
+use borrow.Author.Count.{below_more}
 use Rattle.graph.specs.Lines.{Line}
 use Rattle.proof_cited.specs.Cited.{CitedRising}
+use Rattle.proof_cited.specs.declared.Marker.{Marker}
 use Rattle.proof_cited.specs.Marks.{trues, Listable, NamesNoted, Listing, Listed}
-use Rattle.base.proofs.AbsurdLaws.{true_is_false}
 use Rattle.proof_cited.proofs.OneLaws.{trues_longer, trues_next, trues_part}
-
--- y < x + 1 is x, or below it
-last_or_below : (x y : ℕ) → y < x + 1 → (y < x) ⊎ (y ≡ x)
-last_or_below x y h = go (ltb y x) refl
-  where
-    go : (b : Bool) → ltb y x ≡ b → (y < x) ⊎ (y ≡ x)
-    go true e = inl (ltb-true y x e)
-    go false e = let l = ltb-false y x e in inr (omega arith)
-
-pub listing_start : (seen : List Bool) (names : List ℕ) → 8192 ≤ length names → trues seen ≤ 8192 → Listing seen names 0 0
-listing_start seen names h f = record {
-  room = h;
-  few = f;
-  counted = omega arith;
-  only = λ i k. absurd (omega arith);
-  lower = λ i k. absurd (omega arith);
-  every = λ y k. absurd (omega arith);
-  rising = λ i j k l. absurd (omega arith);
-}
 
 module _ (seen : List Bool) (names : List ℕ) (n x : ℕ) (w : Listing seen names n x) where
   -- no name from x to z
@@ -53,12 +34,7 @@ module _ (seen : List Bool) (names : List ℕ) (n x : ℕ) (w : Listing seen nam
       side y k e false q = absurd (free y (ltb-false y x q) k e)
 
   pub listing_skip : get_or seen x false ≡ false → Listing seen names n (x + 1)
-  listing_skip no_name = pass (x + 1) (omega arith) (λ y a b e. let q : y ≡ x = omega arith in let z = rw q at e in true_is_false (sym z ∙ no_name))
-
-  -- a block without a name
-  pub listing_jump : (blocks : List Bool) (b : ℕ) → Listable seen blocks → x ≡ 64 * b → get_or blocks b false ≡ false → Listing seen names n (64 * (b + 1))
-  listing_jump blocks b t d no_block =
-      pass (64 * (b + 1)) (omega arith) (λ y a h e. let q : y / 64 ≡ b = omega arith in let z = rw q at (t.blocked y e) in true_is_false (sym z ∙ no_block))
+  listing_skip no_name = pass (x + 1) (omega arith) (λ y a b e. let q : y ≡ x = omega arith in let z = rw q at e in cc)
 
   pub listing_few : n ≤ 8192
   listing_few = let c = w.counted in let f = w.few in omega (arith, trues_part x seen)
@@ -73,9 +49,6 @@ module _ (seen : List Bool) (names : List ℕ) (n x : ℕ) (w : Listing seen nam
     stored : get_or (set names n x) n 0 ≡ x
     stored = get_or-set_same names n x 0 listing_room
 
-    at_last : (i : ℕ) → i ≡ n → get_or (set names n x) i 0 ≡ x
-    at_last i e = ap (λ (j : ℕ). get_or (set names n x) j 0) e ∙ stored
-
     kept : (i : ℕ) → i < n → get_or (set names n x) i 0 ≡ get_or names i 0
     kept i h = get_or-set_other names n i x 0 (λ e. omega arith)
 
@@ -84,35 +57,26 @@ module _ (seen : List Bool) (names : List ℕ) (n x : ℕ) (w : Listing seen nam
       room = let e = length-set names n x in omega (arith, w.room);
       few = w.few;
       counted = omega (arith, next);
-      only = λ i k. ⊎_elim (λ h. rw (kept i h) (w.only i h)) (λ e. rw (at_last i e) s) (last_or_below n i k);
-      lower = λ i k. ⊎_elim (λ h. rw (kept i h) (omega (arith, w.lower i h))) (λ e. rw (at_last i e) (omega arith)) (last_or_below n i k);
-      every = λ y k e. ⊎_elim (λ h. old y (w.every y h e)) (λ q. (n, omega arith, stored ∙ sym q)) (last_or_below x y k);
-      rising = λ i j a b. ⊎_elim (λ h. rw (kept i (omega arith), kept j h) (w.rising i j a h)) (λ e. rw (at_last j e, kept i (omega arith)) (w.lower i (omega arith))) (last_or_below n j b);
+      only = below_more _ n (λ i h. rw (kept i h) (w.only i h)) (rw stored s);
+      lower = below_more _ n (λ i h. rw (kept i h) (omega (arith, w.lower i h))) (rw stored (omega arith));
+      every = below_more _ x (λ y h e. old y (w.every y h e)) (λ e. (n, omega arith, stored));
+      rising = λ i j a b. below_more (λ j. i < j → get_or (set names n x) i 0 < get_or (set names n x) j 0) n
+          (λ j h a. rw (kept i (omega arith), kept j h) (w.rising i j a h))
+          (λ a. rw (stored, kept i a) (w.lower i a)) j b a;
     }
       where
         old : (y : ℕ) → (i : ℕ) × (i < n) × (get_or names i 0 ≡ y) → (i : ℕ) × (i < n + 1) × (get_or (set names n x) i 0 ≡ y)
         old y p = (p.0, (let h = p.1 in omega arith), kept p.0 p.1 ∙ p.2)
 
--- past the end no name is noted
-past_false : (l : List Bool) (x : ℕ) → length l ≤ x → get_or l x false ≡ false
-past_false l x h = get_or-eq_default l false h
-
-pub listing_end : (seen blocks : List Bool) (names : List ℕ) (n x : ℕ) → Listable seen blocks → Listing seen names n x → 65536 ≤ x → Listed seen names n
-listing_end seen blocks names n x t w h = record {
-  only = w.only;
-  every = λ y e. side y e (ltb y x) refl;
-  rising = w.rising;
-  fits = let c = w.counted in let f = w.few in let r = w.room in omega (arith, trues_part x seen);
-  few = let c = w.counted in let f = w.few in omega (arith, trues_part x seen);
-}
-  where
-    side : (y : ℕ) → get_or seen y false ≡ true → (b : Bool) → ltb y x ≡ b → (i : ℕ) × (i < n) × (get_or names i 0 ≡ y)
-    side y e true q = w.every y (ltb-true y x q) e
-    side y e false q = let l = ltb-false y x q in let z = t.seen_long in true_is_false (sym e ∙ past_false seen y (omega arith))
+-- a block without a name
+pub listing_jump : (m : Marker) (names : List ℕ) (n b : ℕ) → Listing m.names names n (64 * b) → Listable m → get_or m.blocks b false ≡ false
+    → Listing m.names names n (64 * (b + 1))
+listing_jump m names n b w t no_block =
+    pass m.names names n (64 * b) w (64 * (b + 1)) (omega arith) (λ y a h e. let q : y / 64 ≡ b = omega arith in let z = rw q at (t.blocked y e) in cc)
 
 -- the noted names are the cited ones
-pub names_cited : (ls : List Line) (seen blocks : List Bool) (names : List ℕ) (n : ℕ) → NamesNoted ls seen blocks → Listed seen names n → CitedRising ls (take n names)
-names_cited ls seen blocks names n t w =
+pub names_cited : (ls : List Line) (m : Marker) (names : List ℕ) (n : ℕ) → NamesNoted ls m → Listed m.names names n → CitedRising ls (take n names)
+names_cited ls m names n t w =
     let long : length (take n names) ≡ n = length-take-le n names w.fits in
     let at : (i : ℕ) → i < n → get_or (take n names) i 0 ≡ get_or names i 0 = λ i h. get_or-take n names i 0 h in
     record {

@@ -6,13 +6,19 @@ use mathlib.Core.Logic.{◌⊎◌, inl, inr, ⊎_elim}
 use mathlib.Core.Option.{some}
 use Prim.Native.Nat.{ℕ, zero, suc, ◌/◌, ◌≤◌, ◌<◌}
 use native.Mathlib.Omega.{arith}
-use lib.ListN.{length, get_or, set, length-set}
+use lib.ListN.{length, get_or, set, replicate, length-set}
 use lib.Seq.{get_or-set_same, get_or-set_other}
+use Rattle.std.proofs.lemmas.Grind.{common_steps}
 use lib.Dec.{eqb, ltb}
-use borrow.Author.Tests.{eq-eqb, ne_eqb, eqb-true, eqb-false, lt-ltb, ltb-true}
+use borrow.Author.Tests.{eq-eqb, ne_eqb, eqb-true, lt-ltb, ltb-true}
 use Rattle.proof_cited.specs.Cited.{citations, In}
 use Rattle.proof_cited.specs.Marks.{mark_one, mark_all, see_one, trues}
 use Rattle.proof_cited.proofs.OneLaws.{trues_set}
+
+-- ---- a table of n times false
+
+pub blank_none : (n i : ℕ) → get_or (replicate n false) i false ≡ false
+blank_none n i = grind (arith, common_steps)
 
 -- ---- a number that is no rule, or a rule that cites nothing
 
@@ -28,18 +34,10 @@ nothing_seen s r f a = rw (ne_eqb _ _ a)
 
 module _ (m : List Bool) (a : ℕ) where
   set_keep : (i : ℕ) → get_or m i false ≡ true → a < length m → get_or (set m a true) i false ≡ true
-  set_keep i e h = go (eqb i a) refl
-    where
-      go : (b : Bool) → eqb i a ≡ b → get_or (set m a true) i false ≡ true
-      go true q = rw (eqb-true i a q) (get_or-set_same m a true false h)
-      go false q = get_or-set_other m a i true false (eqb-false i a q) ∙ e
+  set_keep i e h = grind (arith, common_steps)
 
   set_from : (i : ℕ) → get_or (set m a true) i false ≡ true → (get_or m i false ≡ true) ⊎ (i ≡ a)
-  set_from i e = go (eqb i a) refl
-    where
-      go : (b : Bool) → eqb i a ≡ b → (get_or m i false ≡ true) ⊎ (i ≡ a)
-      go true q = inr (eqb-true i a q)
-      go false q = inl (sym (get_or-set_other m a i true false (eqb-false i a q)) ∙ e)
+  set_from i e = grind (arith, common_steps)
 
 -- ---- marks
 
@@ -81,10 +79,6 @@ module _ (m : List Bool) (k a : ℕ) where
       go true q e = ⊎_elim (λ x. inl x) (λ y. let l = ltb-true a k q in inr (omega arith, y)) (set_from m a i e)
       go false q e = inl e
 
-pub all_length : (m : List Bool) (k : ℕ) (l : List ℕ) → length (mark_all m k l) ≡ length m
-all_length m k [] = refl
-all_length m k (a ∷ l) = all_length (mark_one m k a) k l ∙ one_length m k a
-
 pub all_keep : (m : List Bool) (k : ℕ) (l : List ℕ) → k ≤ length m → (i : ℕ) → get_or m i false ≡ true → get_or (mark_all m k l) i false ≡ true
 all_keep m k [] h i e = e
 all_keep m k (a ∷ l) h i e = all_keep (mark_one m k a) k l (omega (arith, one_length m k a)) i (one_keep m k a h i e)
@@ -111,14 +105,6 @@ all_from m k (a ∷ l) i e =
 -- ---- names
 
 module _ (s : List Bool) (r f : ℕ) where
-  pub see_length : length (see_one s r f) ≡ length s
-  unfolding see_one
-  see_length = go (eqb r 1)
-    where
-      go : (b : Bool) → length (cond b (set s f true) s) ≡ length s
-      go true = length-set s f true
-      go false = refl
-
   pub see_keep : (x : ℕ) → get_or s x false ≡ true → f < length s → get_or (see_one s r f) x false ≡ true
   unfolding see_one
   see_keep x e h = go (eqb r 1)

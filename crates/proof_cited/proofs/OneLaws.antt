@@ -1,52 +1,34 @@
 -- How many entries are true.
 use mathlib.Core.Path.{◌≡◌, refl}
-use mathlib.Core.Bool.{Bool, true, false, cond}
+use mathlib.Core.Bool.{Bool, true, false}
 use mathlib.Core.List.{List, [], ◌∷◌}
 use Prim.Native.Nat.{ℕ, zero, suc, ◌≤◌}
 use native.Mathlib.Omega.{arith}
 use lib.ListN.{take, get_or, set}
 use Rattle.proof_cited.specs.Marks.{trues}
-use Rattle.base.proofs.AbsurdLaws.{zero_is_one}
-
--- one entry in front of two lists
-more : (b : Bool) (m n : ℕ) → m ≤ n → cond b (suc m) m ≤ cond b (suc n) n
-more true m n h = omega arith
-more false m n h = h
-
-one_more : (b : Bool) (m n : ℕ) → suc m ≤ n → suc (cond b (suc m) m) ≤ cond b (suc n) n
-one_more true m n h = omega arith
-one_more false m n h = h
-
-at_most : (b : Bool) (m : ℕ) → suc m ≤ suc (cond b (suc m) m)
-at_most true m = omega arith
-at_most false m = omega arith
 
 pub trues_longer : (x y : ℕ) (l : List Bool) → x ≤ y → trues (take x l) ≤ trues (take y l)
 trues_longer zero y l h = omega arith
 trues_longer (suc x) zero l h = absurd (omega arith)
 trues_longer (suc x) (suc y) [] h = omega arith
-trues_longer (suc x) (suc y) (a ∷ l) h = more a _ _ (trues_longer x y l (omega arith))
+trues_longer (suc x) (suc y) (a ∷ l) h = grind (arith, trues_longer x y l (omega arith))
 
 -- an entry that is true counts
 pub trues_next : (x : ℕ) (l : List Bool) → get_or l x false ≡ true → suc (trues (take x l)) ≤ trues (take (suc x) l)
-trues_next x [] e = zero_is_one cc
+trues_next x [] e = cc
 trues_next zero (a ∷ l) e = rw e (omega arith)
-trues_next (suc x) (a ∷ l) e = one_more a _ _ (trues_next x l e)
+trues_next (suc x) (a ∷ l) e = grind (arith, trues_next x l e)
 
 pub trues_part : (x : ℕ) (l : List Bool) → trues (take x l) ≤ trues l
 trues_part zero l = omega arith
 trues_part (suc x) [] = omega arith
-trues_part (suc x) (a ∷ l) = more a _ _ (trues_part x l)
+trues_part (suc x) (a ∷ l) = grind (arith, trues_part x l)
 
 -- a store of true adds at most one
 pub trues_set : (l : List Bool) (f : ℕ) → trues (set l f true) ≤ suc (trues l)
 trues_set [] f = omega arith
-trues_set (a ∷ l) zero = at_most a (trues l)
-trues_set (a ∷ l) (suc f) = go a (trues (set l f true)) (trues l) (trues_set l f)
-  where
-    go : (b : Bool) (m n : ℕ) → m ≤ suc n → cond b (suc m) m ≤ suc (cond b (suc n) n)
-    go true m n h = omega arith
-    go false m n h = h
+trues_set (a ∷ l) zero = grind arith
+trues_set (a ∷ l) (suc f) = grind (arith, trues_set l f)
 
 pub trues_blank : (l : List Bool) → ((x : ℕ) → get_or l x false ≡ false) → trues l ≡ 0
 trues_blank [] z = refl

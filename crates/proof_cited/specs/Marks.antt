@@ -3,7 +3,8 @@
 --   see_one      the name of an equation line is noted
 --   block_one    and so is its block: names 64 b to 64 b + 63 are block b
 --   block_size   64
---   Blank        a table of n times false
+--   Visited      what line k says was marked and noted, and nothing else
+--   Blank        nothing is marked or noted
 --   trues        how many entries are true
 --   Listable     both tables note the same names, at most 8,192
 --   NamesNoted   and these are the cited ones
@@ -12,7 +13,8 @@
 use Rattle.std.specs.Prelude.{◌≡◌, Bool, true, false, cond, List, [], ◌∷◌, ℕ, suc, ◌/◌, ◌≤◌, ◌<◌, length, take, set, get_or, eqb, ltb}
 use Rattle.graph.specs.Limits.{line_limit}
 use Rattle.graph.specs.Lines.{Line}
-use Rattle.proof_cited.specs.Cited.{CitedTable}
+use Rattle.proof_cited.specs.Cited.{citations, CitedTable}
+use Rattle.proof_cited.specs.declared.Marker.{Marker}
 
 unfoldable pub mark_one : List Bool → ℕ → ℕ → List Bool
 mark_one m k a = cond (ltb a k) (set m a true) m
@@ -30,23 +32,27 @@ block_size = 64
 abbrev pub block_one : List Bool → ℕ → ℕ → List Bool
 block_one b rule first = see_one b rule (first / block_size)
 
-pub record Blank (n : ℕ) (table : List Bool) : Type 0 where
-  pub long : length table ≡ n
-  pub none : (x : ℕ) → get_or table x false ≡ false
+pub record Visited (m : Marker) (k : ℕ) (l : Line) (after : Marker) : Type 0 where
+  pub lines : after.lines ≡ mark_all m.lines k (citations l.rule l.first l.second)
+  pub names : after.names ≡ see_one m.names l.rule l.first
+  pub blocks : after.blocks ≡ block_one m.blocks l.rule l.first
+
+pub record Blank (m : Marker) : Type 0 where
+  pub lines : (i : ℕ) → get_or m.lines i false ≡ false
+  pub names : (x : ℕ) → get_or m.names x false ≡ false
+  pub blocks : (b : ℕ) → get_or m.blocks b false ≡ false
 
 abbrev pub trues : List Bool → ℕ
 trues [] = 0
 trues (x ∷ l) = cond x (suc (trues l)) (trues l)
 
-pub record Listable (seen blocks : List Bool) : Type 0 where
-  pub seen_long : length seen ≡ 65536
-  pub blocks_long : length blocks ≡ 1024
-  pub blocked : (x : ℕ) → get_or seen x false ≡ true → get_or blocks (x / block_size) false ≡ true
-  pub few : trues seen ≤ line_limit
+pub record Listable (m : Marker) : Type 0 where
+  pub blocked : (x : ℕ) → get_or m.names x false ≡ true → get_or m.blocks (x / block_size) false ≡ true
+  pub few : trues m.names ≤ line_limit
 
-pub record NamesNoted (ls : List Line) (seen blocks : List Bool) : Type 0 where
-  pub table : CitedTable ls seen
-  pub tables : Listable seen blocks
+pub record NamesNoted (ls : List Line) (m : Marker) : Type 0 where
+  pub table : CitedTable ls m.names
+  pub tables : Listable m
 
 pub record Listing (seen : List Bool) (names : List ℕ) (n x : ℕ) : Type 0 where
   pub room : line_limit ≤ length names

@@ -1,6 +1,6 @@
 -- Laws of the proof file: what a reply tells, and that writing and reading are inverse.
 use mathlib.Core.Path.{◌≡◌, refl, sym, ap, ◌∙◌}
-use mathlib.Core.Bool.{Bool, true, false, not, cond}
+use mathlib.Core.Bool.{Bool, true, false, cond}
 use mathlib.Core.List.{List, [], ◌∷◌, ◌++◌}
 use mathlib.Core.Option.{Option, none, some}
 use mathlib.Core.Logic.{⊎_elim}
@@ -13,8 +13,7 @@ use Rattle.std.specs.List.{starts_with}
 use Rattle.std.proofs.lemmas.Bool.Decides.{nat_tests}
 use lib.Dec.{eqb, ltb}
 use borrow.Author.Tests.{eqb-true, eqb-false, eq-eqb, ne_eqb, ltb-false, le-ltb, not-true}
-use Rattle.base.proofs.AbsurdLaws.{zero_is_one}
-use Rattle.base.proofs.BoolLaws.{and_left, and_right}
+use Rattle.std.proofs.lemmas.Bool.{and_parts}
 use Rattle.std.specs.Prelude.{Result, is_err}
 use Rattle.refusals.specs.declared.Refusal.{Refusal}
 use Rattle.refusals.specs.declared.Refusal.TheVariants.{NotAProofFile, BadFileLength}
@@ -30,10 +29,10 @@ use Rattle.proof_file.specs.Promises.{read_reply}
 
 pub reply_readable : (o : Option Refusal) → is_err (read_reply o) ≡ false → o ≡ none
 reply_readable none e = refl
-reply_readable (some k) e = zero_is_one cc
+reply_readable (some k) e = cc
 
 pub reply_refused : (o : Option Refusal) → is_err (read_reply o) ≡ true → (f : List ℕ) → lines_or o f ≡ []
-reply_refused none e f = zero_is_one cc
+reply_refused none e f = cc
 reply_refused (some k) e f = refl
 
 -- what a file that isn't refused has
@@ -48,9 +47,9 @@ readable f e = go (ltb (length f) 7) refl (is_marked f) refl (is_counted f) refl
   where
     go : (a : Bool) → ltb (length f) 7 ≡ a → (b : Bool) → is_marked f ≡ b → (c : Bool) → is_counted f ≡ c
         → cond {A = Option Refusal} a (some BadFileLength) (cond b (cond c none (some BadFileLength)) (some NotAProofFile)) ≡ none → Readable f
-    go true p b q c r e = zero_is_one cc
-    go false p false q c r e = zero_is_one cc
-    go false p true q false r e = zero_is_one cc
+    go true p b q c r e = cc
+    go false p false q c r e = cc
+    go false p true q false r e = cc
     go false p true q true r e = record { long = ltb-false (length f) 7 p; marked = q; counted = r }
 
 module _ (f : List ℕ) (r : Result (Unit {0}) Refusal) (h : r ≡ read_reply (file_refusal f)) where
@@ -114,14 +113,14 @@ pub record Counts (f : List ℕ) : Type 0 where
 pub readable_counts : (f : List ℕ) → is_counted f ≡ true → Counts f
 unfolding is_counted
 readable_counts f e =
-    let a = and_left (not (eqb (two f 5) 0)) _ e in
-    let r = and_right (not (eqb (two f 5) 0)) _ e in
-    let b = and_left (not (ltb 8192 (two f 5))) _ r in
+    let a = (and_parts _ _ e).0 in
+    let r = (and_parts _ _ e).1 in
+    let b = (and_parts _ _ r).0 in
     let n : two f 5 ≡ 0 → ⊥ = eqb-false (two f 5) 0 (not-true (eqb (two f 5) 0) a) in
     record {
       some = ⊎_elim (λ z. absurd (n z)) (λ z. z) (eq-zero-or-pos (two f 5));
       few = ltb-false 8192 (two f 5) (not-true (ltb 8192 (two f 5)) b);
-      long = eqb-true (length f) _ (and_right (not (ltb 8192 (two f 5))) _ r);
+      long = eqb-true (length f) _ (and_parts _ _ r).1;
     }
 
 -- a readable file's header is that of its count
@@ -129,12 +128,12 @@ header_marked : (a b c d e g h : ℕ) (rest : List ℕ) → e < 256 → h < 256 
     → a ∷ b ∷ c ∷ d ∷ e ∷ g ∷ h ∷ [] ≡ header_of (g * 256 + h)
 unfolding is_marked
 header_marked a b c d e g h rest le lh m =
-    let m1 = and_right (eqb a 80) _ m in
-    let m2 = and_right (eqb b 84) _ m1 in
-    let qa : a ≡ 80 = eqb-true a 80 (and_left (eqb a 80) _ m) in
-    let qb : b ≡ 84 = eqb-true b 84 (and_left (eqb b 84) _ m1) in
-    let qc : c ≡ 72 = eqb-true c 72 (and_left (eqb c 72) _ m2) in
-    let v : d * 256 + e ≡ 1 = eqb-true (d * 256 + e) 1 (and_right (eqb c 72) _ m2) in
+    let m1 = (and_parts _ _ m).1 in
+    let m2 = (and_parts _ _ m1).1 in
+    let qa : a ≡ 80 = eqb-true a 80 (and_parts _ _ m).0 in
+    let qb : b ≡ 84 = eqb-true b 84 (and_parts _ _ m1).0 in
+    let qc : c ≡ 72 = eqb-true c 72 (and_parts _ _ m2).0 in
+    let v : d * 256 + e ≡ 1 = eqb-true (d * 256 + e) 1 (and_parts _ _ m2).1 in
     let qd : d ≡ 0 = omega arith in
     let qe : e ≡ 1 = omega arith in
     let qg : g ≡ (g * 256 + h) / 256 = omega arith in

@@ -4,14 +4,13 @@ use mathlib.Core.Bool.{true}
 use mathlib.Core.Option.{Option, none, some}
 use Prim.Native.Nat.{ℕ, ◌≤◌, ◌<◌}
 use native.Mathlib.Omega.{arith}
-use lib.Dec.{ltb}
 use borrow.Author.Tests.{lt-ltb, ltb-true}
-use Rattle.base.proofs.BoolLaws.{and_left, and_right}
+use Rattle.std.proofs.lemmas.Bool.{and_parts}
 use Rattle.graph.specs.State.{Equation}
 use Rattle.proof_rules.specs.Rules.{both_below, offer_below}
 
 both_ends : (n u v : ℕ) → both_below n u v ≡ true → (u < n) × (v < n)
-both_ends n u v h = (ltb-true u n (and_left (ltb u n) (ltb v n) h), ltb-true v n (and_right (ltb u n) (ltb v n) h))
+both_ends n u v h = let p = and_parts _ _ h in (ltb-true u n p.0, ltb-true v n p.1)
 
 -- what is known among n nodes is known among more
 pub offer_within : (n m : ℕ) → n ≤ m → (o : Option Equation) → offer_below n o ≡ true → offer_below m o ≡ true

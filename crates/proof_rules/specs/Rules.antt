@@ -7,17 +7,15 @@
 --   claimed         the code's answer about a line, as a claim or none
 --   symbol_in       the symbol of what a lookup found, as the code's optional value
 --   functor_seen    the code's answer about a functor node, as graph's lookup gives one
---   labels_compared how the labels of two nodes compare
+--   labels_compared whether the labels of two nodes are equal, if both have one
 --   WithinLimits    not too many nodes, and none with too many children
-use Rattle.std.specs.Prelude.{Bool, true, ◌&&◌, cond, ℕ, ◌≤◌, ◌<◌, ltb, Option as Answer, Some, None}
+use Rattle.std.specs.Prelude.{Bool, true, ◌&&◌, ℕ, ◌≤◌, ◌<◌, ltb, Option as Answer, Some, None}
 use Rattle.std.proofs.Math.Option.{Option, none, some}
 use Rattle.graph.specs.Limits.{node_limit, child_limit}
 use Rattle.graph.specs.State.{Equation, equation_of}
 use Rattle.graph.specs.Lines.{Claim, same, below, Functor, equal_labels}
 use Rattle.store.specs.Views.{arity_at}
 use Rattle.store.specs.declared.Terms.{Terms}
-use Rattle.proof_rules.specs.declared.Labels.{Labels}
-use Rattle.proof_rules.specs.declared.Labels.TheVariants.{Equal, Differ, Missing}
 use Rattle.proof_rules.specs.declared.Offer.{Offer}
 use Rattle.proof_rules.specs.declared.ClaimKind.{ClaimKind}
 use Rattle.proof_rules.specs.declared.ClaimKind.TheVariants.{Same, Below}
@@ -58,10 +56,10 @@ abbrev pub functor_seen : Answer FunctorLent → Option Functor
 functor_seen None = none
 functor_seen (Some k) = some (record { symbol = k.symbol; children = k.children.now })
 
-abbrev pub labels_compared : Option Functor → Option Functor → Labels
-labels_compared none o = Missing
-labels_compared (some k) none = Missing
-labels_compared (some k) (some m) = cond (equal_labels k m) Equal Differ
+abbrev pub labels_compared : Option Functor → Option Functor → Answer Bool
+labels_compared none o = None
+labels_compared (some k) none = None
+labels_compared (some k) (some m) = Some (equal_labels k m)
 
 pub record WithinLimits (t : Terms) : Type 0 where
   pub nodes : t.count ≤ node_limit

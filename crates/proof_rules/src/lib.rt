@@ -18,14 +18,6 @@ struct Functor<'a> {
     children: &'a [u8],
 }
 
-// How the labels of two nodes compare: both have one, or one is missing.
-#[derive(Clone, Copy, PartialEq, Eq, Debug)]
-pub enum Labels {
-    Equal,
-    Differ,
-    Missing,
-}
-
 // An equation offered beside the held ones.
 #[derive(Clone, Copy, PartialEq, Eq, Debug)]
 pub struct Offer {
@@ -49,6 +41,7 @@ pub struct Claim {
     pub end: u8,
 }
 
+// Two makers: one that is handed the kind would say no more than the struct's own literal.
 impl Claim {
     pub fn same(start: u8, end: u8) -> Claim
         ensures { claim_seen result ≡ same start end }
@@ -94,6 +87,8 @@ fn symbol_at(t: &Terms, u: usize) -> Option<u16>
 }
 
 // Node `u`, if it is a functor node.
+// `WithinLimits`, and `Fit` in `proof_claims` and `proof_check`, stay clauses: `check` asks for `Fit` of the nodes, equations and offer that it is
+// handed, and hands all three on; each rule reads one or two of them, so a struct with the fact would be taken apart at once.
 #[tactic(auto, using(crate::proofs::NodeLaws::functor_past, crate::proofs::NodeLaws::functor_not, crate::proofs::NodeLaws::functor_is))]
 fn functor_at(t: &Terms, u: usize) -> Option<Functor<'_>>
     requires { WithinLimits t.now }
@@ -109,22 +104,14 @@ fn functor_at(t: &Terms, u: usize) -> Option<Functor<'_>>
     }
 }
 
-// The labels of nodes `u` and `v`.
-pub fn compare_labels(t: &Terms, u: u8, v: u8) -> Labels
+// Whether the labels of nodes `u` and `v` are equal, if both have one.
+pub fn compare_labels(t: &Terms, u: u8, v: u8) -> Option<bool>
     requires { t.now.count ≤ node_limit }
     ensures { result ≡ labels_compared (functor_at (nodes_of t.now) u) (functor_at (nodes_of t.now) v) }
 {
-    let Some(f) = symbol_at(t, usize::from(u)) else {
-        return Labels::Missing;
-    };
-    let Some(g) = symbol_at(t, usize::from(v)) else {
-        return Labels::Missing;
-    };
-    if f == g {
-        Labels::Equal
-    } else {
-        Labels::Differ
-    }
+    let f = symbol_at(t, usize::from(u))?;
+    let g = symbol_at(t, usize::from(v))?;
+    Some(f == g)
 }
 
 // Rule 1 on the offered equation.

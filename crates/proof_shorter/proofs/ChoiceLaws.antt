@@ -11,26 +11,23 @@ use lib.Dec.{ltb}
 use borrow.Author.Tests.{lt-ltb, le-ltb, ltb-true, ltb-false}
 use Rattle.graph.specs.State.{State, Equation}
 use Rattle.graph.specs.Goals.{Goal, Judgement, passed, refused, broken_line}
-use Rattle.proof_check.specs.Answers.{judged_as, answer_to}
+use Rattle.proof_check.specs.Answers.{answer_to}
 use Rattle.unifier.specs.Views.{state_of, Valid}
 use Rattle.std.specs.Prelude.{Result, Ok, Err, Some, None}
 use Rattle.std.specs.declared.option.Option.{Option as Optional}
 use Rattle.refusals.specs.Numbers.{refusal_number, Brought, nothing, proof, place, brings, numbered}
-use Rattle.refusals.specs.declared.Refusal.{Refusal}
 use Rattle.refusals.specs.declared.Refusal.TheVariants.{BrokenLine}
 use Rattle.refusals.proofs.NumberLaws.{proof_number, place_is, numbered_back}
-use Rattle.unifier.proofs.CheckLaws.{judgement, refused_by, Listed, check_listed}
+use Rattle.unifier.proofs.CheckLaws.{Listed, check_listed}
 use Rattle.proof_rules.specs.Rules.{offer_below}
-use Rattle.unifier.specs.Check.{check_reply, goal_below, offer_new, Checks}
+use Rattle.unifier.specs.Check.{check_reply, goal_below, offer_new}
 use Rattle.unifier.specs.declared.Workspace.{Workspace}
-use Rattle.unifier.specs.declared.Outcome.{Outcome}
 use Rattle.proof_shorter.specs.Choice.{Choice, first, second, refusal, refusal_in, broken_in, list_number, which, refused_for, choice, in_list, or_else, line_count, fewer_lines, shorter_reply, part_of, shorter_of}
 use Rattle.proof_shorter.specs.Promises.{Passing, Chooses, Hands}
 use Rattle.proof_shorter.specs.Best.{Best, Picked, Shorter}
 use Rattle.proof_shorter.specs.declared.List.{List as Which}
 use Rattle.proof_shorter.specs.declared.List.TheVariants.{First, Second}
 use Rattle.proof_shorter.specs.declared.NoChoice.{NoChoice}
-use Rattle.base.proofs.AbsurdLaws.{zero_is_one}
 
 -- ---- the code's steps
 
@@ -39,28 +36,6 @@ fewer_second a b h = rw (lt-ltb _ _ h)
 
 pub fewer_first : (a b : List ℕ) → line_count a ≤ line_count b → first ≡ fewer_lines a b
 fewer_first a b h = rw (le-ltb _ _ h)
-
--- a refusal of a list leaves nothing to what comes after it
-or_else_refused : (l : ℕ) (r : Refusal) (c d : Choice) → or_else l (judged_as (Err r)) c ≡ or_else l (judged_as (Err r)) d
-or_else_refused l r c d = rw (refused_by r) (go (brings r))
-  where
-    go : (b : Brought) → or_else l (judgement (refusal_number r) b) c ≡ or_else l (judgement (refusal_number r) b) d
-    go nothing = refl
-    go (proof n) = refl
-    go (place i) = refl
-
-module _ (w : Workspace) (o : Option Equation) (g : Goal) (l : ℕ) (bytes : List ℕ) (r : Outcome (Unit {0})) (C : Checks w o g bytes r) where
-  pub passed_list : r.reply ≡ Ok tt → Passing w o g l bytes (Ok tt)
-  passed_list e = record {
-    refuses = λ n c. let q : passed ≡ refused 1 = ap judged_as (sym e) ∙ C.refuses n in zero_is_one cc;
-    replies = λ v c. let q : passed ≡ check_reply (state_of w) o g bytes = ap judged_as (sym e) ∙ C.replies v in rw (← q);
-  }
-
-  pub refused_list : (k : Refusal) (n : NoChoice) → r.reply ≡ Err k → choice (Err n) ≡ or_else l (judged_as (Err k)) first → Passing w o g l bytes (Err n)
-  refused_list k n e h = record {
-    refuses = λ b c. h ∙ ap (λ (j : Judgement). or_else l j first) (ap judged_as (sym e) ∙ C.refuses b);
-    replies = λ v c. h ∙ or_else_refused l k first c ∙ ap (λ (j : Judgement). or_else l j c) (ap judged_as (sym e) ∙ C.replies v);
-  }
 
 module _ (w : Workspace) (o : Option Equation) (g : Goal) (a b : List ℕ) where
   pub first_refused : {x : Result (Unit {0}) NoChoice} {r : Result Which NoChoice} (n : NoChoice) → x ≡ Err n → Passing w o g 1 a x → r ≡ Err n → Chooses w o g a b r
@@ -82,7 +57,7 @@ module _ (w : Workspace) (o : Option Equation) (g : Goal) (a b : List ℕ) where
       let p = rw d at P in
       let k = rw h at Q in
       record {
-        refuses = λ z. let q : first ≡ refusal 1 = p.refuses z first in zero_is_one cc;
+        refuses = λ z. let q : first ≡ refusal 1 = p.refuses z first in cc;
         replies = λ v. e ∙ k.replies v (fewer_lines a b) ∙ p.replies v _;
       }
 
@@ -188,9 +163,9 @@ module _ (s : State) (o : Option Equation) (g : Goal) where
   passes_some r p e = go (offer_below (length s.nodes) o && goal_below (length s.nodes) g) (offer_new s o) (rw e at p)
     where
       go : (b c : Bool) → cond b (cond c (refused 11) (refused 6)) (refused 4) ≡ passed → ⊥
-      go true true q = zero_is_one cc
-      go true false q = zero_is_one cc
-      go false c q = zero_is_one cc
+      go true true q = cc
+      go true false q = cc
+      go false c q = cc
 
   module _ (a b : List ℕ) where
     best_of : check_reply s o g a ≡ passed → check_reply s o g b ≡ passed → Best s o g a b (shorter_of s o g a b)

@@ -26,6 +26,7 @@ pub struct NoChoice {
 fn refused_in(list: List, refusal: Refusal) -> NoChoice
     ensures { choice (Err result) ≡ or_else (list_number list) (judged_as (Err refusal)) first }
 {
+    // By the number, as `in_list` has it: a match of the same meaning would name ten refusals.
     if refusal.number() < 11 {
         return NoChoice {
             refusal,
@@ -48,10 +49,9 @@ fn passes(
 ) -> Result<(), NoChoice>
     ensures { Passing w (offer_of offer) (goal_of goal) (list_number list) lines.now result }
 {
-    match w.check(offer, lines, goal).reply {
-        Ok(()) => Ok(()),
-        Err(refusal) => Err(refused_in(list, refusal)),
-    }
+    w.check(offer, lines, goal)
+        .reply
+        .map_err(|refusal| refused_in(list, refusal))
 }
 
 // The choice between two lists, each checked for the goal, the first list first: the call beside `shorter`.

@@ -8,7 +8,6 @@ use mathlib.Core.Path.{◌≡◌, refl, sym, ap, ◌∙◌}
 use mathlib.Core.Logic.{◌⊎◌, inl, inr}
 use Prim.Native.Nat.{ℕ}
 use native.Mathlib.Omega.{arith}
-use Rattle.base.proofs.AbsurdLaws.{zero_is_one}
 use Rattle.refusals.specs.Numbers.{refusal_number, nothing, proof, place, brings, numbered}
 use Rattle.refusals.specs.declared.Refusal.{Refusal}
 use Rattle.refusals.specs.declared.Refusal.TheVariants.{NotAWorkspace, NodesFull, TooManyChildren, UnknownNode, ShortBuffer, NameHeld, EquationsFull, Clash, Cycle, NameNotHeld, BadLength, BrokenLine, NotShown, NotAProofFile, BadFileLength, UnreadableOrder, ShortOutput, OtherArity}
@@ -61,11 +60,11 @@ numbered_back UnknownNode e = refl
 numbered_back ShortBuffer e = refl
 numbered_back NameHeld e = refl
 numbered_back EquationsFull e = refl
-numbered_back (Clash n) e = zero_is_one cc
-numbered_back (Cycle n) e = zero_is_one cc
+numbered_back (Clash n) e = cc
+numbered_back (Cycle n) e = cc
 numbered_back NameNotHeld e = refl
 numbered_back BadLength e = refl
-numbered_back (BrokenLine n) e = zero_is_one cc
+numbered_back (BrokenLine n) e = cc
 numbered_back NotShown e = refl
 numbered_back NotAProofFile e = refl
 numbered_back BadFileLength e = refl
@@ -77,44 +76,44 @@ pub number_one : (r q : Refusal) → brings r ≡ nothing → brings q ≡ nothi
 number_one r q b d e = sym (numbered_back r b) ∙ ap numbered e ∙ numbered_back q d
 
 pub proof_number : (r : Refusal) (m : ℕ) → brings r ≡ proof m → (refusal_number r ≡ 8) ⊎ (refusal_number r ≡ 9)
-proof_number NotAWorkspace m e = zero_is_one cc
-proof_number NodesFull m e = zero_is_one cc
-proof_number TooManyChildren m e = zero_is_one cc
-proof_number UnknownNode m e = zero_is_one cc
-proof_number ShortBuffer m e = zero_is_one cc
-proof_number NameHeld m e = zero_is_one cc
-proof_number EquationsFull m e = zero_is_one cc
+proof_number NotAWorkspace m e = cc
+proof_number NodesFull m e = cc
+proof_number TooManyChildren m e = cc
+proof_number UnknownNode m e = cc
+proof_number ShortBuffer m e = cc
+proof_number NameHeld m e = cc
+proof_number EquationsFull m e = cc
 proof_number (Clash n) m e = inl refl
 proof_number (Cycle n) m e = inr refl
-proof_number NameNotHeld m e = zero_is_one cc
-proof_number BadLength m e = zero_is_one cc
-proof_number (BrokenLine n) m e = zero_is_one cc
-proof_number NotShown m e = zero_is_one cc
-proof_number NotAProofFile m e = zero_is_one cc
-proof_number BadFileLength m e = zero_is_one cc
-proof_number UnreadableOrder m e = zero_is_one cc
-proof_number ShortOutput m e = zero_is_one cc
-proof_number OtherArity m e = zero_is_one cc
+proof_number NameNotHeld m e = cc
+proof_number BadLength m e = cc
+proof_number (BrokenLine n) m e = cc
+proof_number NotShown m e = cc
+proof_number NotAProofFile m e = cc
+proof_number BadFileLength m e = cc
+proof_number UnreadableOrder m e = cc
+proof_number ShortOutput m e = cc
+proof_number OtherArity m e = cc
 
 pub place_is : (r : Refusal) (i : ℕ) → brings r ≡ place i → r ≡ BrokenLine i
-place_is NotAWorkspace i e = zero_is_one cc
-place_is NodesFull i e = zero_is_one cc
-place_is TooManyChildren i e = zero_is_one cc
-place_is UnknownNode i e = zero_is_one cc
-place_is ShortBuffer i e = zero_is_one cc
-place_is NameHeld i e = zero_is_one cc
-place_is EquationsFull i e = zero_is_one cc
-place_is (Clash n) i e = zero_is_one cc
-place_is (Cycle n) i e = zero_is_one cc
-place_is NameNotHeld i e = zero_is_one cc
-place_is BadLength i e = zero_is_one cc
+place_is NotAWorkspace i e = cc
+place_is NodesFull i e = cc
+place_is TooManyChildren i e = cc
+place_is UnknownNode i e = cc
+place_is ShortBuffer i e = cc
+place_is NameHeld i e = cc
+place_is EquationsFull i e = cc
+place_is (Clash n) i e = cc
+place_is (Cycle n) i e = cc
+place_is NameNotHeld i e = cc
+place_is BadLength i e = cc
 place_is (BrokenLine n) i e = cc
-place_is NotShown i e = zero_is_one cc
-place_is NotAProofFile i e = zero_is_one cc
-place_is BadFileLength i e = zero_is_one cc
-place_is UnreadableOrder i e = zero_is_one cc
-place_is ShortOutput i e = zero_is_one cc
-place_is OtherArity i e = zero_is_one cc
+place_is NotShown i e = cc
+place_is NotAProofFile i e = cc
+place_is BadFileLength i e = cc
+place_is UnreadableOrder i e = cc
+place_is ShortOutput i e = cc
+place_is OtherArity i e = cc
 
 pub number_8 : (r : Refusal) → refusal_number r ≡ 8 → (n : ℕ) × (r ≡ Clash n)
 number_8 NotAWorkspace e = absurd (omega (arith, e))

@@ -29,7 +29,7 @@ pub enum Refusal {
 }
 
 impl Refusal {
-    // Its number, as users read it.
+    // Its number, as users read it. No `From`: `u8::from` of a refusal wouldn't say what the number is.
     pub fn number(self) -> u8
         ensures { result ≡ refusal_number self }
     {

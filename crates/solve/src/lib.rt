@@ -22,7 +22,9 @@ pub enum Finding {
     Cycle,
 }
 
-// Node u is in the class with root `table[u]` and has, where the verdict is Solved, the height of that class.
+// Node u is in the class with root `table[u]` and has, where the verdict is Solved, the height of that class. The heights stand beside the
+// verdict and not in two of its variants: Solved and Cycle both have them, and what is known of them is said of both at once. After a clash no
+// class has one.
 #[derive(Clone, Copy)]
 pub struct SolveResult {
     pub table: [u8; 64],
@@ -64,16 +66,16 @@ fn judge(o: Settling, t: &Terms) -> SolveResult
 // The verdict on the equations over the nodes.
 pub fn decide(trace: &mut Trace, t: &Terms, e: &Equations) -> SolveResult
     requires { Given t.now e.now }
-    ensures { (s : State) → ArraysHold t.now e.now s → Decided s result trace.new }
+    ensures { (s : State) → ArraysHold t.now e.now s → Decided s result trace.new.items }
 {
     judge(solve_closure::settle(trace, t, e), t)
 }
 
 // The verdict with one equation more, between `x` and `y`, on the table and trace of a state of `m` equations without a clash.
 pub fn extend(table: [u8; 64], trace: &mut Trace, t: &Terms, m: usize, x: u8, y: u8) -> SolveResult
-    requires { OfferFits t.now m x y table trace.old }
+    requires { OfferFits t.now m x y table trace.old.items }
     ensures left_over { LeftOver t.now result.table result.heights result.verdict }
-    ensures decided { (s : State) (e : Equation) → Before t.now s e m x y table trace.old → Decided (offered s e) result trace.new }
+    ensures decided { (s : State) (e : Equation) → Before t.now s e m x y table trace.old.items → Decided (offered s e) result trace.new.items }
 {
     judge(solve_closure::settle_offered(table, trace, t, m, x, y), t)
 }

@@ -1,5 +1,5 @@
 -- The worked examples hold: a list of classes tells nodes apart, equations join them, and the rest is computed.
-use mathlib.Core.Path.{◌≡◌, refl, sym, ◌∙◌}
+use mathlib.Core.Path.{◌≡◌, refl}
 use mathlib.Core.Bool.{Bool, true, false}
 use mathlib.Core.List.{List, [], ◌∷◌}
 use Prim.Native.Nat.{ℕ, zero, suc, ◌<◌}
@@ -10,7 +10,6 @@ use lib.Dec.{eqb}
 use Rattle.graph.specs.State.{Equation, equation_of, State, IsNode, FunctorAt}
 use Rattle.graph.specs.Closure.{Same, equation, reflexivity, symmetry, transitivity}
 use Rattle.graph.proofs.SolutionTest.{is_classes, apart}
-use Rattle.base.proofs.AbsurdLaws.{zero_is_one, true_is_false}
 use Rattle.solve_classes.specs.Members.{functor_kind, size_of, lowest_from, class_number, ClassOf}
 use Rattle.solve_classes.specs.ClassExamples.{five_nodes, ClassExamples}
 use Rattle.solve_classes.proofs.MemberLaws.{class_by, class_unique}
@@ -23,20 +22,20 @@ module _ (es : List Equation) where
   s = five_nodes es
 
   typed_only : (v : ℕ) → IsNode s v → functor_kind kinds v ≡ true → FunctorAt s v
-  typed_only zero n e = zero_is_one cc
+  typed_only zero n e = cc
   typed_only (suc zero) n e = (0, [], refl)
   typed_only (suc (suc zero)) n e = (7, [], refl)
-  typed_only (suc (suc (suc zero))) n e = zero_is_one cc
+  typed_only (suc (suc (suc zero))) n e = cc
   typed_only (suc (suc (suc (suc zero)))) n e = (7, [], refl)
   typed_only (suc (suc (suc (suc (suc v))))) n e = absurd (omega arith)
 
   typed_all : (v : ℕ) → FunctorAt s v → functor_kind kinds v ≡ true
-  typed_all zero F = zero_is_one (cc F.2)
+  typed_all zero F = cc F.2
   typed_all (suc zero) F = refl
   typed_all (suc (suc zero)) F = refl
-  typed_all (suc (suc (suc zero))) F = zero_is_one (cc F.2)
+  typed_all (suc (suc (suc zero))) F = cc F.2
   typed_all (suc (suc (suc (suc zero)))) F = refl
-  typed_all (suc (suc (suc (suc (suc v))))) F = zero_is_one (cc F.2)
+  typed_all (suc (suc (suc (suc (suc v))))) F = cc F.2
 
   -- the nodes' classes, numbered from 1; which of them are joined, of those that have u's number
   module _ (c₀ c₁ c₂ c₃ c₄ : ℕ) where
@@ -65,10 +64,10 @@ module _ (es : List Equation) where
           joined (suc (suc zero)) h e = (omega arith, p₂ e)
           joined (suc (suc (suc zero))) h e = (omega arith, p₃ e)
           joined (suc (suc (suc (suc zero)))) h e = (omega arith, p₄ e)
-          joined (suc (suc (suc (suc (suc v))))) h e = true_is_false (sym e ∙ past)
+          joined (suc (suc (suc (suc (suc v))))) h e = cc
 
 no : {A : Type 0} → false ≡ true → A
-no e = true_is_false (sym e)
+no e = cc
 
 -- the equation at a place of the list joins its ends
 abbrev by : (es : List Equation) (i : ℕ) (d : Equation) → get_elem? es i ≡ some d → Same (five_nodes es) d.left d.right
@@ -95,7 +94,7 @@ class_examples =
       lone_functor = class_with [] 1 2 3 4 5 refl 1 (omega arith) refl no (λ e. reflexivity (omega arith)) no no no;
       lower_variable = shown;
       its_own = class_with one 1 1 3 4 5 refl 1 (omega arith) refl (λ e. symmetry (by one 0 _ refl)) (λ e. reflexivity (omega arith)) no no no;
-      not_lowest = λ size p. zero_is_one (class_unique p shown).0;
+      not_lowest = λ size p. cc (class_unique p shown).0;
       variables = class_with two 1 2 3 1 5 refl 3 (omega arith) refl (λ e. symmetry (by two 0 _ refl)) no no (λ e. reflexivity (omega arith)) no;
       two_functors =
           class_with four 1 2 1 1 1 refl 0 (omega arith) refl

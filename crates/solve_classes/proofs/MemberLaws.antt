@@ -13,9 +13,7 @@ use lib.Dec.{eqb, leb, ltb}
 use lib.Bits.{bit_and}
 use lib.Count.{ones, count_trailing_zeros, trailing_of_zero}
 use borrow.Author.Tests.{eqb-true, eq-eqb, lt-ltb, le-ltb}
-use Rattle.base.proofs.AbsurdLaws.{true_is_false}
-use Rattle.base.proofs.BoolLaws.{and_left, and_right, and_both, untrue_false}
-use Rattle.base.proofs.CaseLaws.{below_or_from}
+use Rattle.std.proofs.lemmas.Bool.{and_from, and_parts, cases_lt, false_from_ne_true}
 use Rattle.base.proofs.ListLaws.{found_lt, lt_found}
 use Rattle.graph.specs.State.{Node, variable, functor, State, IsNode, FunctorAt, NodeAt}
 use Rattle.graph.specs.Closure.{Same, reflexivity}
@@ -139,18 +137,18 @@ module _ (s : State) (u : ℕ) (k : IsNode s u) (few : length s.nodes ≤ 64) (f
     (inside : (v : ℕ) → v < 64 → f v ≡ true → IsNode s v × Same s u v) (member : (v : ℕ) → Same s u v → f v ≡ true)
     (typed_only : (v : ℕ) → IsNode s v → g v ≡ true → FunctorAt s v) (typed_all : (v : ℕ) → FunctorAt s v → g v ≡ true) where
   outside : (v : ℕ) → length s.nodes ≤ v → v < 64 → f v ≡ false
-  outside v l h = untrue_false (f v) (λ e. omega (arith, (inside v h e).0))
+  outside v l h = false_from_ne_true (f v) (λ e. omega (arith, (inside v h e).0))
 
   count_by : CountOf (Same s u) (length s.nodes) (size_of f 64)
   count_by =
       rw (size_short f (length s.nodes) 64 few outside)
-      (count_test (Same s u) f (length s.nodes) (λ v l e. (inside v (omega arith) e).1) (λ v l e p. true_is_false (sym (member v p) ∙ e)))
+      (count_test (Same s u) f (length s.nodes) (λ v l e. (inside v (omega arith) e).1) (λ v l e p. cc (member v p)))
 
   functor_member : (v : ℕ) → FunctorIn s u v → pass_both f g v ≡ true
-  functor_member v p = and_both (f v) (g v) (member v p.0) (typed_all v p.1)
+  functor_member v p = and_from (f v) (g v) (member v p.0) (typed_all v p.1)
 
   functor_inside : (v : ℕ) → v < 64 → pass_both f g v ≡ true → FunctorIn s u v
-  functor_inside v h e = let p = inside v h (and_left (f v) (g v) e) in (p.1, typed_only v p.0 (and_right (f v) (g v) e))
+  functor_inside v h e = let p = inside v h (and_parts _ _ e).0 in (p.1, typed_only v p.0 (and_parts _ _ e).1)
 
   -- in a class without functor nodes each node is a variable
   variable_inside : ((v : ℕ) → FunctorIn s u v → ⊥) → (v : ℕ) → v < 64 → f v ≡ true → VariableIn s u v
@@ -165,14 +163,14 @@ module _ (s : State) (u : ℕ) (k : IsNode s u) (few : length s.nodes ≤ 64) (f
   lowest_variable z =
       ⊎_elim
       (λ p. untyped z (record { here = variable_inside z _ p.0 p.1.here; below = λ v l q. p.1.below v l (member v q.0) }))
-      (λ p. true_is_false (sym (member u (reflexivity k)) ∙ p.1 u (omega arith)))
+      (λ p. cc (member u (reflexivity k), p.1 u (omega arith)))
       (lowest_finds f 64)
 
   number_by : ClassNumber s u (class_number f g)
   number_by =
       ⊎_elim
       (λ p. rw (lt-ltb (lowest_from (pass_both f g) 0 64) 64 p.0) (typed (record { here = functor_inside _ p.0 p.1.here; below = λ v l q. p.1.below v l (functor_member v q) })))
-      (λ p. rw (le-ltb (lowest_from (pass_both f g) 0 64) 64 (omega (arith, p.0))) (lowest_variable (λ v q. true_is_false (sym (functor_member v q) ∙ p.1 v (small v q)))))
+      (λ p. rw (le-ltb (lowest_from (pass_both f g) 0 64) 64 (omega (arith, p.0))) (lowest_variable (λ v q. cc (functor_member v q, p.1 v (small v q)))))
       (lowest_finds (pass_both f g) 64)
     where
       small : (v : ℕ) → FunctorIn s u v → v < 64
@@ -186,7 +184,7 @@ module _ (s : State) (t : List ℕ) (u : ℕ) (T : Table t) (X : Exact s t) (few
     (kind : List ℕ) (typed_only : (v : ℕ) → IsNode s v → functor_kind kind v ≡ true → FunctorAt s v) (typed_all : (v : ℕ) → FunctorAt s v → functor_kind kind v ≡ true) where
   table_inside : (v : ℕ) → v < 64 → in_class t (class t u) v ≡ true → IsNode s v × Same s u v
   table_inside v h e =
-      let n : IsNode s v = ⊎_elim (λ l. l) (λ l. absurd (omega (arith, A v l h, T.low u (omega arith), eqb-true (class t v) (class t u) e))) (below_or_from (length s.nodes) v) in
+      let n : IsNode s v = ⊎_elim (λ l. l) (λ l. absurd (omega (arith, A v l h, T.low u (omega arith), eqb-true (class t v) (class t u) e))) (cases_lt v (length s.nodes)) in
       (n, X.only u v k n (sym (eqb-true (class t v) (class t u) e)))
 
   pub class_of : ClassOf s u (class_number (in_class t (class t u)) (functor_kind kind)) (size_of (in_class t (class t u)) 64)

@@ -1,23 +1,19 @@
 -- What joining two classes of a table does to the table's relation.
 use mathlib.Core.Path.{◌≡◌, refl, sym, ◌∙◌, ap}
 use mathlib.Core.List.{List}
-use mathlib.Core.Bool.{Bool, true, false, cond}
+use mathlib.Core.Bool.{cond}
 use mathlib.Core.Logic.{◌⊎◌, inl, inr, ⊎_elim}
 use Prim.Native.Nat.{ℕ, ◌≤◌, ◌<◌}
 use native.Mathlib.Omega.{arith}
 use lib.Dec.{eqb}
-use borrow.Author.Tests.{eqb-true, eqb-false, le-leb, lt-leb}
+use borrow.Author.Tests.{le-leb, lt-leb}
 use Rattle.solve_classes.specs.Table.{class, Relabelled, Table, JoinedBy, Merged}
 use Rattle.solve_classes.proofs.TableLaws.{class_small}
 
 -- the two cases of an entry
 pub cond_cases : (x gone keep : ℕ)
     → ((x ≡ gone) × (cond (eqb x gone) keep x ≡ keep)) ⊎ ((x ≡ gone → ⊥) × (cond (eqb x gone) keep x ≡ x))
-cond_cases x gone keep = go (eqb x gone) refl
-  where
-    go : (b : Bool) → eqb x gone ≡ b → ((x ≡ gone) × (cond b keep x ≡ keep)) ⊎ ((x ≡ gone → ⊥) × (cond b keep x ≡ x))
-    go true e = inl (eqb-true x gone e, refl)
-    go false e = inr (eqb-false x gone e, refl)
+cond_cases x gone keep = grind arith
 
 module _ (t r : List ℕ) (a b : ℕ) (ha : a < 64) (hb : b < 64) (T : Table t) (le : class t a ≤ class t b) (J : Relabelled t (class t a) (class t b) r) where
   Cases : ℕ → Type 0

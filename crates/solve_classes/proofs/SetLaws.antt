@@ -10,8 +10,7 @@ use lib.Bits.{bit_and, and_block, bit_or, or_shifted_r, block_half, block_odd, s
 use lib.Pow.{shl_exact}
 use lib.Dec.{lit<}
 use lib.Count.{ones, ones_cat, count_trailing_zeros, under, trailing_of_zero}
-use Rattle.base.proofs.AbsurdLaws.{true_is_false}
-use Rattle.base.proofs.BoolLaws.{untrue_false}
+use Rattle.std.proofs.lemmas.Bool.{false_from_ne_true}
 use Rattle.solve_classes.specs.Members.{digit, set_of, size_of, pass_both, Lowest, lowest_from}
 
 pub set_none : (f : ℕ → Bool) → set_of f 0 ≡ 0
@@ -94,7 +93,7 @@ set_pos f (suc n) i l e = go (λ q. set_pos f n i q e) (eq-or-lt_of_le (le_of_su
   where
     here : (b : Bool) → b ≡ true → 0 < 2 ^ n → 0 < digit b * 2 ^ n + set_of f n
     here true e p = omega arith
-    here false e p = let z : ◌≡◌ {A = Bool} false true = e in let y : ◌≡◌ {A = ℕ} 0 1 = cc in omega arith
+    here false e p = cc
 
     go : (i < n → 0 < set_of f n) → (i ≡ n) ⊎ (i < n) → 0 < digit (f n) * 2 ^ n + set_of f n
     go rest (inl q) = here (f n) (ap f (sym q) ∙ e) (let h : set_of f n < 2 ^ n = set_lt f n in omega arith)
@@ -109,7 +108,7 @@ set_lowest f m (suc n) i l h w = go (λ q. set_lowest f m n i (omega arith) q w)
     go : (i < n → count_trailing_zeros m (set_of f n) ≡ i) → (i ≡ n) ⊎ (i < n) → count_trailing_zeros m (digit (f n) * 2 ^ n + set_of f n) ≡ i
     go rest (inl q) =
         let e : f n ≡ true = ap f (sym q) ∙ w.here in
-        let z : set_of f n ≡ 0 = set_empty f n (λ k u. untrue_false (f k) (w.below k (omega arith))) in
+        let z : set_of f n ≡ 0 = set_empty f n (λ k u. false_from_ne_true (f k) (w.below k (omega arith))) in
         let s : digit (f n) * 2 ^ n + set_of f n ≡ 1 * 2 ^ n = ap₂ (λ (b : Bool) (x : ℕ). digit b * 2 ^ n + x) e z ∙ omega arith in
         ap (count_trailing_zeros m) s ∙ trailing_one m n (omega arith) ∙ sym q
     go rest (inr q) = trailing_low m n (digit (f n)) (set_of f n) (set_pos f n i q w.here) (set_lt f n) (omega arith) ∙ rest q
@@ -127,7 +126,7 @@ finds_from f m i (suc n) e h = go (f i) refl (finds_from f m (suc i) n (omega ar
     next z k u = ⊎_elim (λ q. ap f q ∙ z) (λ q. h k q) (eq-or-lt_of_le (le_of_suc-le-suc u))
 
     go : (b : Bool) → f i ≡ b → (((k : ℕ) → k < suc i → f k ≡ false) → Finds f m (lowest_from f (suc i) n)) → Finds f m (cond b i (lowest_from f (suc i) n))
-    go true z rest = inl (omega arith, record { here = z; below = λ k l y. true_is_false (sym y ∙ h k l) })
+    go true z rest = inl (omega arith, record { here = z; below = λ k l y. cc (h k l) })
     go false z rest = rest (next z)
 
 pub lowest_finds : (f : ℕ → Bool) (m : ℕ) → Finds f m (lowest_from f 0 m)

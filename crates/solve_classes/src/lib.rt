@@ -1,4 +1,7 @@
-// Class tables of 64 nodes, merges of classes, and the members of a class.
+// Class tables of 64 nodes, merges of classes, and the members of a class. A table is the array itself, as document 01 wants of a merge, which
+// takes and returns it: so `Table` stands in contracts, as a type with it for an invariant would be taken apart and made anew at each merge.
+// Table and nodes, or table and trace, are no one struct either: the table is what a merge takes and gives, the nodes are a workspace's, the
+// trace is the caller's, and a struct of references to them would be made in each call.
 #![tactic(auto)]
 
 ghost use Rattle.std.specs.Prelude.{◌≡◌, ℕ, ◌<◌};
@@ -44,7 +47,7 @@ pub fn merge(table: [u8; 64], a: u8, b: u8) -> [u8; 64]
     requires a_bound { (a < 64) × (b < 64) }
     ensures { Merged table a b result }
 {
-    unite(table, table[a as usize], table[b as usize])
+    unite(table, table[usize::from(a)], table[usize::from(b)])
 }
 
 // The nodes with entry `c`, one bit for each: the members of the class with that root.
@@ -67,8 +70,9 @@ pub struct Figures {
     pub size: u8,
 }
 
-// Of the class with root `c`: its lowest functor node, or its lowest node where it has none (64 where it has no nodes), and how many nodes it
-// has. By kind the nodes are a table of two classes, in which the functor nodes have entry 1.
+// Of the class with root `c`: its lowest functor node, or its lowest node where it has none, and how many nodes it has. By kind the nodes are
+// a table of two classes, in which the functor nodes have entry 1. The number is document 01's trailing zeros of a set, 64 where a class has
+// no nodes, and no Option: who asks has a node of the class.
 pub fn class_figures(table: [u8; 64], kind: [u8; 64], c: u8) -> Figures
     ensures { (result.number ≡ class_number (in_class table c) (functor_kind kind)) × (result.size ≡ size_of (in_class table c) 64) }
 {

@@ -1,7 +1,7 @@
 -- The outcomes of a visit, and a round made of visits.
 use Rattle.std.proofs.Common.{◌≡◌, refl, sym, ◌∙◌, ap, ⊎_elim, List, ℕ, ◌+◌, ◌≤◌, ◌<◌, arith, length, get_or, set, length-set, get_or-set_same, get_or-set_other, Option, Some, None}
 use native.Mathlib.Nat.{eq-or-lt_of_le}
-use Rattle.base.proofs.CaseLaws.{same_or_other}
+use Rattle.std.proofs.lemmas.Bool.{cases_eq}
 use Rattle.graph.specs.Limits.{child_limit}
 use Rattle.solve_classes.specs.Table.{class}
 use Rattle.store.specs.Views.{kind_at, arity_at, child_at}
@@ -118,16 +118,16 @@ module _ (g : Terms) (u : ℕ) (t : List ℕ) (es : List Entry) (head : List (Op
               functor = λ i v h q. ⊎_elim
                   (λ e. let z : Some u ≡ Some v = sym (now_u i e) ∙ q in let y : u ≡ v = cc in rw (← y) (record { known = A.known; kind = k }))
                   (λ d. A.heads.functor i v h (sym (as_was i d) ∙ q))
-                  (same_or_other i (class t u));
+                  (cases_eq (class t u) i);
               inside = λ i v h q. ⊎_elim
                   (λ e. let z : Some u ≡ Some v = sym (now_u i e) ∙ q in let y : u ≡ v = cc in ap (class t) (sym y) ∙ sym (A.ready.table.fixed u below) ∙ ap (class t) e)
                   (λ d. A.heads.inside i v h (sym (as_was i d) ∙ q))
-                  (same_or_other i (class t u));
+                  (cases_eq (class t u) i);
             };
         keeps = λ i v h q. ⊎_elim
             (λ e. let z : Some v ≡ None = sym q ∙ ap (λ (j : ℕ). get_or head j None) (sym e) ∙ l in absurd (cc))
             (λ d. as_was i d ∙ q)
-            (same_or_other i (class t u));
+            (cases_eq (class t u) i);
         agrees = λ e Fu. record { node = u; found = now_u (class t u) refl; agree = record { alike = refl; places = λ j h. refl } };
       }
     where

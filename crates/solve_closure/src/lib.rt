@@ -20,9 +20,9 @@ pub struct Settling {
 // One round, from the highest node down: a functor node and the head of its class clash, or their children are joined. A head is kept for
 // each root from here on.
 fn round(mut table: [u8; 64], trace: &mut Trace, t: &Terms) -> Settling
-    requires trace_fits { TraceFits table trace.old }
+    requires trace_fits { TraceFits table trace.old.items }
     requires formed { Formed t.now }
-    ensures { Round t.now table trace.old result trace.new }
+    ensures { Round t.now table trace.old.items result trace.new.items }
 {
     let mut head = [None; 64];
     for u in (0..t.count).rev() {
@@ -44,9 +44,9 @@ fn round(mut table: [u8; 64], trace: &mut Trace, t: &Terms) -> Settling
 
 // Rounds, until one clashes or merges nothing.
 fn rounds(mut table: [u8; 64], trace: &mut Trace, t: &Terms) -> Settling
-    requires trace_fits { TraceFits table trace.old }
+    requires trace_fits { TraceFits table trace.old.items }
     requires formed { Formed t.now }
-    ensures { Rounds t.now table trace.old result trace.new }
+    ensures { Rounds t.now table trace.old.items result trace.new.items }
 {
     loop {
         let before = trace.len();
@@ -61,8 +61,8 @@ fn rounds(mut table: [u8; 64], trace: &mut Trace, t: &Terms) -> Settling
 // The closure of the equations on the nodes: a clash, or the table of its classes; and the trace.
 pub fn settle(trace: &mut Trace, t: &Terms, e: &Equations) -> Settling
     requires { Given t.now e.now }
-    ensures rounds_ended { RoundsEnded t.now result trace.new }
-    ensures settled { (s : State) → ArraysHold t.now e.now s → Settled t.now s result trace.new }
+    ensures rounds_ended { RoundsEnded t.now result trace.new.items }
+    ensures settled { (s : State) → ArraysHold t.now e.now s → Settled t.now s result trace.new.items }
 {
     trace.clear();
     let table = solve_trace::join_equations(solve_classes::fresh(), trace, e);
@@ -71,18 +71,18 @@ pub fn settle(trace: &mut Trace, t: &Terms, e: &Equations) -> Settling
 
 // One equation more, between `x` and `y`, on the table and trace of a state of `m` equations.
 pub fn settle_offered(
-    table: [u8; 64],
+    mut table: [u8; 64],
     trace: &mut Trace,
     t: &Terms,
     m: usize,
     x: u8,
     y: u8,
 ) -> Settling
-    requires { OfferFits t.now m x y table trace.old }
-    ensures rounds_ended { RoundsEnded t.now result trace.new }
-    ensures settled { (s : State) (e : Equation) → Before t.now s e m x y table trace.old
-        → Settled t.now (offered s e) result trace.new }
+    requires { OfferFits t.now m x y table trace.old.items }
+    ensures rounds_ended { RoundsEnded t.now result trace.new.items }
+    ensures settled { (s : State) (e : Equation) → Before t.now s e m x y table trace.old.items
+        → Settled t.now (offered s e) result trace.new.items }
 {
-    let table = solve_trace::join(table, trace, x, y, Entry::Equation(m as u16));
+    solve_trace::join(&mut table, trace, x, y, Entry::Equation(m as u16));
     rounds(table, trace, t)
 }

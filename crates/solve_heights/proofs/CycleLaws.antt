@@ -7,7 +7,7 @@ use native.Mathlib.Nat.{le_of_suc-le-suc, eq-or-lt_of_le}
 use native.Mathlib.Omega.{arith}
 use Rattle.graph.specs.State.{State}
 use Rattle.graph.specs.Closure.{Below, below_below, Cycle}
-use Rattle.base.proofs.CaseLaws.{same_or_other}
+use Rattle.std.proofs.lemmas.Bool.{cases_eq}
 
 -- a node of P below x, or a cycle
 abbrev pub Next : State → (ℕ → Type 0) → ℕ → Type 0
@@ -26,14 +26,14 @@ module _ (s : State) where
           ⊎_elim
           (λ d. inl (closes y z (e ∙ sym d) c))
           (λ d. inr (z, ((q, d), below_below b c)))
-          (same_or_other k z)
+          (cases_eq z k)
 
       first : (y : ℕ) → P y → Below s x y → Next s (λ y. P y × (y ≡ k → ⊥)) x
       first y q b =
           ⊎_elim
           (λ e. ⊎_elim (λ c. inl c) (λ n. second y e b n.0 n.1.0 n.1.1) (step y q))
           (λ d. inr (y, ((q, d), b)))
-          (same_or_other k y)
+          (cases_eq y k)
 
   pub cycle_among : (n : ℕ) (P : ℕ → Type 0) → ((x : ℕ) → P x → x < n) → ((x : ℕ) → P x → Next s P x) → (x : ℕ) → P x → Cycle s
   cycle_among zero P bound step x p = absurd (omega (arith, bound x p))

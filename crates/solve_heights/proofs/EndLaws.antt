@@ -6,7 +6,7 @@ use mathlib.Core.List.{List}
 use Prim.Native.Nat.{ℕ, ◌-◌, ◌≤◌, ◌<◌}
 use native.Mathlib.Omega.{arith}
 use Rattle.std.specs.Prelude.{None}
-use Rattle.base.proofs.CaseLaws.{same_or_other}
+use Rattle.std.proofs.lemmas.Bool.{cases_eq}
 use Rattle.base.proofs.SumLaws.{sum_at, sum_some}
 use Rattle.store.specs.declared.Terms.{Terms}
 use Rattle.solve_classes.specs.Table.{class}
@@ -38,7 +38,7 @@ module _ (g : Terms) (t : List ℕ) (p : Peeler) (P : Peeling g t p) (R : (u : �
       ⊎_elim
       (λ m. record { node = W.0; inside = m; stuck = R W.0 W.1.0 (pending W.0 W.1.1) })
       (λ m. absurd (omega (arith, W.1.1, wait_out t p.pending c W.0 m)))
-      (same_or_other c (class t W.0))
+      (cases_eq (class t W.0) c)
     where
       pending : (v : ℕ) → 0 < wait_at t p.pending c v → pending_at p.pending v ≡ true
       pending v l = go (pending_at p.pending v) refl

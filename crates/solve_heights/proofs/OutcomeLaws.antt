@@ -16,7 +16,7 @@ use Rattle.store.specs.declared.Terms.{Terms}
 use Rattle.store.proofs.ViewLaws.{child_found, child_known}
 use Rattle.solve_classes.specs.Table.{class, Table}
 use Rattle.solve_classes.specs.Exact.{Exact}
-use Rattle.base.proofs.CaseLaws.{same_or_other}
+use Rattle.std.proofs.lemmas.Bool.{cases_eq}
 use Rattle.base.proofs.SumLaws.{sum_some}
 use Rattle.solve_trace.specs.Nodes.{Nodes, IsFunctor, Formed}
 use Rattle.solve_trace.proofs.NodeLaws.{functor_found, functor_known, known}
@@ -96,7 +96,7 @@ module _ (g : Terms) (s : State) (t : List ℕ) (p : Heights) (T : Table t) (F :
       (λ q. absurd (omega (arith, W.1.1, left_gone t p.height c q.0 q.1)))
       (none_or_some (height_at p.height c)))
       (λ r. absurd (omega (arith, W.1.1, left_other t p.height c r)))
-      (same_or_other c (class t c))
+      (cases_eq (class t c) c)
 
   -- down from a class that went all classes went, at lower heights
   Falls : ℕ → ℕ → Type 0

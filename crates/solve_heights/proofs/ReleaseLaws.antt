@@ -10,8 +10,7 @@ use lib.ListN.{get_or, set, length-set}
 use lib.Seq.{get_or-set_same, get_or-set_other}
 use Rattle.std.specs.Prelude.{Option, Some, None}
 use Rattle.base.specs.Sum.{sum_to}
-use Rattle.base.proofs.AbsurdLaws.{true_is_false}
-use Rattle.base.proofs.CaseLaws.{same_or_other}
+use Rattle.std.proofs.lemmas.Bool.{cases_eq}
 use Rattle.base.proofs.SumLaws.{sum_at}
 use Rattle.store.specs.declared.Terms.{Terms}
 use Rattle.solve_classes.specs.Table.{class, Table}
@@ -21,7 +20,7 @@ use Rattle.solve_heights.specs.Peel.{height_at, left_at, left, Stuck, Lower}
 use Rattle.solve_heights.specs.Passes.{pending_at, wait_at, Peeling}
 use Rattle.solve_heights.specs.declared.Peeler.{Peeler}
 use Rattle.solve_heights.proofs.CountLaws.{sum_agree, sum_one}
-use Rattle.solve_heights.proofs.OptionLaws.{none_or_some, not_both}
+use Rattle.solve_heights.proofs.OptionLaws.{none_or_some}
 use Rattle.solve_heights.proofs.SummandLaws.{wait_in, wait_out, wait_done, left_one, left_gone, left_same, classes_most, class_low, is_class, under_low}
 
 module _ (g : Terms) (t : List ℕ) (p : Peeler) (u : ℕ) (known : u < g.count) (P : Peeling g t p) where
@@ -59,10 +58,10 @@ module _ (g : Terms) (t : List ℕ) (p : Peeler) (u : ℕ) (known : u < g.count)
 
     -- a node that is released now was so before, or is node u
     pub fewer : (v : ℕ) → pending_at after v ≡ true → pending_at p.pending v ≡ true
-    fewer v e = ⊎_elim (λ m. true_is_false (sym e ∙ rw m done)) (λ m. sym (others v m) ∙ e) (same_or_other u v)
+    fewer v e = ⊎_elim (λ m. cc done) (λ m. sym (others v m) ∙ e) (cases_eq v u)
 
     own_free : (v : ℕ) → pending_at after v ≡ false → Stuck g t p.height v → ⊥
-    own_free v z S = ⊎_elim (λ m. free (rw m at S)) (λ m. P.released v (sym (others v m) ∙ z) S) (same_or_other u v)
+    own_free v z S = ⊎_elim (λ m. free (rw m at S)) (λ m. P.released v (sym (others v m) ∙ z) S) (cases_eq v u)
 
     -- `rest`: how many nodes its class waits for from now on
     module _ (rest : ℕ) (r : rest + 1 ≡ get_or p.waiting (class t u) 0) where
@@ -97,8 +96,8 @@ module _ (g : Terms) (t : List ℕ) (p : Peeler) (u : ℕ) (known : u < g.count)
           ⊎_elim
           (λ n. rw n (wait_out t p.pending k u (λ z. m (sym z)) ∙ sym (wait_out t after k u (λ z. m (sym z)))))
           (λ n. ap (λ (z : Bool). cond (eqb (class t v) k) (cond z 1 0) 0) (sym (others v n)))
-          (same_or_other u v)))
-          (same_or_other c k)
+          (cases_eq v u)))
+          (cases_eq k c)
 
       -- the class of u still waits
       still_waits : (rest ≡ 0 → ⊥) → Peeling g t (record p { pending = set p.pending u false; waiting = set p.waiting (class t u) rest })
@@ -111,11 +110,11 @@ module _ (g : Terms) (t : List ℕ) (p : Peeler) (u : ℕ) (known : u < g.count)
             left_waits = λ k C e. ⊎_elim
                 (λ m. rw m (omega (arith, own, z)))
                 (λ m. omega (arith, other k m, P.left_waits k C e))
-                (same_or_other c k);
+                (cases_eq k c);
             gone_waits = λ k a l n. ⊎_elim
-                (λ m. not_both _ a own_left (rw m at n))
+                (λ m. cc own_left)
                 (λ m. other k m ∙ P.gone_waits k a l n)
-                (same_or_other c k);
+                (cases_eq k c);
             released = own_free;
             low = P.low;
             apart = P.apart;
@@ -141,13 +140,13 @@ module _ (g : Terms) (t : List ℕ) (p : Peeler) (u : ℕ) (known : u < g.count)
         n_stays : (k : ℕ) → height_at next k ≡ None → height_at p.height k ≡ None
         n_stays k e =
             ⊎_elim
-            (λ m. not_both _ p.went (rw m at e) n_same)
+            (λ m. cc n_same)
             (λ m. sym (n_other k m) ∙ e)
-            (same_or_other c k)
+            (cases_eq k c)
 
         -- a class that went before keeps its height
         n_keeps : (k a : ℕ) → height_at p.height k ≡ Some a → height_at next k ≡ Some a
-        n_keeps k a n = n_other k (λ m. not_both _ a own_left (rw m at n)) ∙ n
+        n_keeps k a n = n_other k (λ m. cc own_left) ∙ n
 
         -- a class that went, by its height: it is the new one, or went before
         n_cases : {A : Type 0} (k a : ℕ) → height_at next k ≡ Some a → (k ≡ c → a ≡ p.went → A) → ((k ≡ c → ⊥) → height_at p.height k ≡ Some a → A) → A
@@ -155,7 +154,7 @@ module _ (g : Terms) (t : List ℕ) (p : Peeler) (u : ℕ) (known : u < g.count)
             ⊎_elim
             (λ m. let e : Some a ≡ Some p.went = sym n ∙ ap (height_at next) m ∙ n_same in new m cc)
             (λ m. old m (sym (n_other k m) ∙ n))
-            (same_or_other c k)
+            (cases_eq k c)
 
         n_lower : Lower g t next
         n_lower v j a U k n =
@@ -206,9 +205,9 @@ module _ (g : Terms) (t : List ℕ) (p : Peeler) (u : ℕ) (known : u < g.count)
               waiting_size = length-set p.waiting c rest ∙ P.waiting_size;
               waits = waits;
               left_waits = λ k C e. ⊎_elim
-                  (λ m. not_both _ p.went (rw m at e) n_same)
+                  (λ m. cc n_same)
                   (λ m. omega (arith, other k m, P.left_waits k C (n_stays k e)))
-                  (same_or_other c k);
+                  (cases_eq k c);
               gone_waits = λ k a l n. n_cases k a n (λ m e. rw m (own ∙ z)) (λ m h. other k m ∙ P.gone_waits k a l h);
               released = λ v f S. own_free v f (n_stuck v S);
               low = λ k a l n. n_cases k a n (λ m e. omega (arith, e)) (λ m h. omega (arith, P.low k a l h));
@@ -216,7 +215,7 @@ module _ (g : Terms) (t : List ℕ) (p : Peeler) (u : ℕ) (known : u < g.count)
               unused = λ k l n. ⊎_elim
                   (λ m. absurd (n (rw m (is_class g t T F u known))))
                   (λ m. n_other k m ∙ P.unused k l n)
-                  (same_or_other c k);
+                  (cases_eq k c);
               lower = n_lower;
               table = T;
               formed = F;

@@ -12,8 +12,7 @@ use lib.Seq.{get_or-set_same, get_or-set_other}
 use borrow.Author.Tests.{eq-eqb, ne_eqb}
 use Rattle.std.specs.Prelude.{Option, None}
 use Rattle.base.specs.Sum.{sum_to}
-use Rattle.base.proofs.AbsurdLaws.{true_is_false}
-use Rattle.base.proofs.CaseLaws.{same_or_other}
+use Rattle.std.proofs.lemmas.Bool.{cases_eq}
 use Rattle.base.proofs.SumLaws.{sum_none, sum_more, sum_at, sum_most}
 use Rattle.store.specs.declared.Terms.{Terms}
 use Rattle.solve_classes.specs.Table.{class, member_at, root, Table}
@@ -21,7 +20,6 @@ use Rattle.solve_trace.specs.Nodes.{Formed}
 use Rattle.solve_heights.specs.Peel.{height_at, stays, left_at}
 use Rattle.solve_heights.specs.Passes.{pending_at, wait_at, Peeling, Counted}
 use Rattle.solve_heights.proofs.CountLaws.{sum_agree}
-use Rattle.solve_heights.proofs.OptionLaws.{not_both}
 use Rattle.solve_heights.proofs.SummandLaws.{wait_in, root_most, class_low}
 
 pub counted_none : (t : List ℕ) → Counted t 0 (replicate 64 0) 0
@@ -44,7 +42,7 @@ pub counted_low : (t : List ℕ) (i : ℕ) (w : List ℕ) (n : ℕ) → Counted 
 counted_low t i w n C c l = omega (arith, C.members c l, sum_most (member_at t c) i (λ u k. most u))
   where
     most : (u : ℕ) → member_at t c u ≤ 1
-    most u = ⊎_elim (λ e. rw (eq-eqb (class t u) c e) (omega arith)) (λ e. rw (ne_eqb (class t u) c e) (omega arith)) (same_or_other c (class t u))
+    most u = grind arith
 
 pub counted_classes : (t : List ℕ) (i : ℕ) (w : List ℕ) (n : ℕ) → Counted t i w n → n ≤ i
 counted_classes t i w n C = omega (arith, C.classes, sum_most (root t) i (λ u k. root_most t u))
@@ -61,7 +59,7 @@ counted_more t i w n m c v C l e a b =
           omega (arith, now_v, a, C.members c l, sum_more (member_at t k) i, ap (λ (z : ℕ). sum_to (member_at t z) i) q, one k (sym e ∙ q)))
           (λ q.
           omega (arith, get_or-set_other w c k v 0 (λ z. q (sym z)), C.members k h, sum_more (member_at t k) i, zero k (λ z. q (e ∙ z))))
-          (same_or_other k c);
+          (cases_eq c k);
       classes = omega (arith, C.classes, b, sum_more (root t) i);
     }
   where
@@ -88,12 +86,12 @@ peel_start g t w n T F C =
         sum_at (wait_at t (replicate 64 true) c) g.count c D.known,
         wait_in t (replicate 64 true) c c D.lowest (pending c D.known),
       );
-      gone_waits = λ c a l d. not_both _ a (all c l) d;
-      released = λ u z S. true_is_false (sym (pending u S.functor.known) ∙ z);
-      low = λ c a l d. not_both _ a (all c l) d;
-      apart = λ c d a l k e f. not_both _ a (all c l) e;
+      gone_waits = λ c a l d. cc (all c l);
+      released = λ u z S. cc (pending u S.functor.known);
+      low = λ c a l d. cc (all c l);
+      apart = λ c d a l k e f. cc (all c l);
       unused = λ c l n. all c l;
-      lower = λ u j a U k d. not_both _ a (all (class t u) (class_low g t T F u U.known)) d;
+      lower = λ u j a U k d. cc (all (class t u) (class_low g t T F u U.known));
       total = C.classes;
       count = omega (arith, C.classes, sum_agree (left_at t (replicate 64 None)) (root t) g.count (λ c l. each c (omega (arith, F.most))));
     }

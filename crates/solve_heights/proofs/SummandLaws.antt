@@ -9,7 +9,7 @@ use native.Mathlib.Omega.{arith}
 use lib.ListN.{length, get_or}
 use borrow.Author.Tests.{eq-eqb, ne_eqb}
 use Rattle.std.specs.Prelude.{Option, Some, None}
-use Rattle.base.proofs.CaseLaws.{same_or_other}
+use Rattle.std.proofs.lemmas.Bool.{cases_eq}
 use Rattle.base.proofs.SumLaws.{sum_at, sum_most}
 use Rattle.base.proofs.TabLaws.{tab_get_d}
 use Rattle.store.specs.Views.{arity_at, child_at, children_at}
@@ -30,7 +30,7 @@ pub wait_out : (t : List ℕ) (p : List Bool) (c u : ℕ) → (class t u ≡ c �
 wait_out t p c u d = rw (ne_eqb _ _ d)
 
 pub wait_done : (t : List ℕ) (p : List Bool) (c u : ℕ) → pending_at p u ≡ false → wait_at t p c u ≡ 0
-wait_done t p c u d = ⊎_elim (λ e. rw (eq-eqb (class t u) c e, d)) (wait_out t p c u) (same_or_other c (class t u))
+wait_done t p c u d = ⊎_elim (λ e. rw (eq-eqb (class t u) c e, d)) (wait_out t p c u) (cases_eq (class t u) c)
 
 pub left_one : (t : List ℕ) (h : List (Option ℕ)) (c : ℕ) → class t c ≡ c → height_at h c ≡ None → left_at t h c ≡ 1
 left_one t h c e q = rw (eq-eqb _ _ e, q)
@@ -43,20 +43,14 @@ left_gone t h c a d =
     ⊎_elim
     (λ e. rw (eq-eqb (class t c) c e, d))
     (left_other t h c)
-    (same_or_other c (class t c))
+    (cases_eq (class t c) c)
 
 -- what leaves a height alone leaves the count alone
 pub left_same : (t : List ℕ) (h next : List (Option ℕ)) (c : ℕ) → height_at next c ≡ height_at h c → left_at t h c ≡ left_at t next c
 left_same t h next c e = rw e
 
-pub root_one : (t : List ℕ) (c : ℕ) → class t c ≡ c → root t c ≡ 1
-root_one t c e = rw (eq-eqb _ _ e)
-
-pub root_none : (t : List ℕ) (c : ℕ) → (class t c ≡ c → ⊥) → root t c ≡ 0
-root_none t c d = rw (ne_eqb _ _ d)
-
 pub root_most : (t : List ℕ) (c : ℕ) → root t c ≤ 1
-root_most t c = ⊎_elim (λ e. omega (arith, root_one t c e)) (λ d. omega (arith, root_none t c d)) (same_or_other c (class t c))
+root_most t c = grind arith
 
 pub classes_most : (g : Terms) (t : List ℕ) → classes g t ≤ g.count
 classes_most g t = sum_most (root t) g.count (λ i h. root_most t i)

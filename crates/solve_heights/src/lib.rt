@@ -21,7 +21,8 @@ pub struct Heights {
 }
 
 // The peel at work: how many classes went, of how many; how many nodes of each class are not released, and which nodes; the heights of
-// the classes that went. The two counts come first: behind the arrays they would be read anew after each store.
+// the classes that went. Three arrays and not one of structs: `waiting` and `height` are by class, `pending` is by node, and `height` is
+// handed on as it is.
 #[derive(Clone, Copy)]
 struct Peeler {
     went: u8,

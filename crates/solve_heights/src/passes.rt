@@ -33,27 +33,22 @@ pub trait Visitor {
         ensures here { counted self.new ≡ counted self.old → closed t.now table.now self.new u };
 }
 
-fn upward<V: Visitor>(v: &mut V, table: &[u8; 64], t: &Terms)
+// One pass over the nodes.
+fn pass<V: Visitor>(v: &mut V, table: &[u8; 64], t: &Terms, down: bool)
     requires between { V.between t.now table.now v.old }
     ensures between { V.between t.now table.now v.new }
     ensures fixed { V.fixed v.new ≡ V.fixed v.old }
     ensures risen { V.counted v.old ≤ V.counted v.new }
     ensures closed { V.counted v.new ≡ V.counted v.old → (u : ℕ) → u < t.now.count → V.closed t.now table.now v.new u }
 {
-    for u in 0..t.count {
-        v.visit(table, t, u);
-    }
-}
-
-fn downward<V: Visitor>(v: &mut V, table: &[u8; 64], t: &Terms)
-    requires between { V.between t.now table.now v.old }
-    ensures between { V.between t.now table.now v.new }
-    ensures fixed { V.fixed v.new ≡ V.fixed v.old }
-    ensures risen { V.counted v.old ≤ V.counted v.new }
-    ensures closed { V.counted v.new ≡ V.counted v.old → (u : ℕ) → u < t.now.count → V.closed t.now table.now v.new u }
-{
-    for u in (0..t.count).rev() {
-        v.visit(table, t, u);
+    if down {
+        for u in (0..t.count).rev() {
+            v.visit(table, t, u);
+        }
+    } else {
+        for u in 0..t.count {
+            v.visit(table, t, u);
+        }
     }
 }
 
@@ -68,11 +63,7 @@ pub fn run<V: Visitor>(v: &mut V, table: &[u8; 64], t: &Terms, most: u8, mut dow
 {
     let mut before = v.counted();
     while before < most {
-        if down {
-            downward(v, table, t);
-        } else {
-            upward(v, table, t);
-        }
+        pass(v, table, t, down);
         let after = v.counted();
         if after == before {
             return;

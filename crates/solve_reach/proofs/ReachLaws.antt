@@ -11,14 +11,14 @@ use borrow.Author.Count.{below_more}
 use Rattle.std.specs.Prelude.{Option, Some, None}
 use Rattle.std.specs.Option.{IsSome, IsNone, is_some}
 use Rattle.base.specs.Sum.{sum_to}
-use Rattle.base.proofs.CaseLaws.{same_or_other}
+use Rattle.std.proofs.lemmas.Bool.{cases_eq}
 use Rattle.base.proofs.SumLaws.{sum_most, sum_same}
 use Rattle.store.specs.Views.{arity_at, child_at}
 use Rattle.store.specs.declared.Terms.{Terms}
 use Rattle.solve_classes.specs.Table.{class, Table}
 use Rattle.solve_trace.specs.Nodes.{IsFunctor, Formed}
 use Rattle.solve_heights.specs.Nodes.{under}
-use Rattle.solve_heights.proofs.OptionLaws.{not_both, some_of, none_of}
+use Rattle.solve_heights.proofs.OptionLaws.{some_of, none_of}
 use Rattle.solve_heights.proofs.CountLaws.{sum_one}
 use Rattle.solve_heights.proofs.SummandLaws.{under_low}
 use Rattle.solve_reach.specs.Reach.{down_at, Onward, Ways}
@@ -106,7 +106,7 @@ module _ (g : Terms) (t : List ℕ) where
     at_old e n = get_or-set_other w.search.reached d e (Some x) None n
 
     kept : (e : ℕ) (y : Down) → down_at w.search e ≡ Some y → down_at next e ≡ Some y
-    kept e y h = at_old e (λ q. not_both _ y new (rw q at h)) ∙ h
+    kept e y h = at_old e (λ q. cc new) ∙ h
 
     -- a class that is reached is d, or was reached before
     cases : {A : Type 0} (e : ℕ) (y : Down) → down_at next e ≡ Some y → (e ≡ d → y ≡ x → A) → (down_at w.search e ≡ Some y → A) → A
@@ -114,7 +114,7 @@ module _ (g : Terms) (t : List ℕ) where
         ⊎_elim
         (λ q. let z : Some y ≡ Some x = sym h ∙ ap (down_at next) q ∙ at_new in here q cc)
         (λ n. there (sym (at_old e n) ∙ h))
-        (same_or_other d e)
+        (cases_eq e d)
 
     count : w.count + 1 ≡ sum_to (reached_at next) 64
     count =
@@ -221,14 +221,14 @@ module _ (g : Terms) (t : List ℕ) where
         start = l;
         ways =
             record {
-              parents = λ d x m h. not_both _ x (none d m) h;
-              childs = λ d x m h. not_both _ x (none d m) h;
-              low = λ d x m h. not_both _ x (none d m) h;
-              top = λ d x m h. not_both _ x (none d m) h;
-              onward = λ d x m h. not_both _ x (none d m) h;
+              parents = λ d x m h. cc (none d m);
+              childs = λ d x m h. cc (none d m);
+              low = λ d x m h. cc (none d m);
+              top = λ d x m h. cc (none d m);
+              onward = λ d x m h. cc (none d m);
             };
-        steps = λ d x m h. not_both _ x (none d m) h;
-        high = λ d x m h. not_both _ x (none d m) h;
+        steps = λ d x m h. cc (none d m);
+        high = λ d x m h. cc (none d m);
         count = refl;
       }
     where

@@ -1,6 +1,6 @@
 -- What the search says of a state whose closure the table is: it reaches the classes below u, exactly. And cycles: a node below itself
 -- has a functor node in its class.
-use mathlib.Core.Path.{◌≡◌, refl, sym, ◌∙◌, ap}
+use mathlib.Core.Path.{◌≡◌, refl, sym}
 use mathlib.Core.Logic.{inl, inr, ⊎_elim}
 use mathlib.Core.List.{List}
 use mathlib.Core.Option.{some}
@@ -9,7 +9,6 @@ use native.Mathlib.Omega.{arith}
 use lib.ListN.{length}
 use Rattle.std.specs.Prelude.{Some, None}
 use Rattle.std.specs.Option.{IsSome, IsNone}
-use Rattle.base.proofs.AbsurdLaws.{true_is_false}
 use Rattle.graph.specs.State.{State, functor, IsNode, NodeAt, ChildAt}
 use Rattle.graph.specs.Closure.{Same, reflexivity, symmetry, transitivity, Below, child, same_below, below_same, below_below}
 use Rattle.graph.specs.Lines.{by_child}
@@ -22,8 +21,8 @@ use Rattle.solve_classes.specs.Table.{class, Table}
 use Rattle.solve_classes.specs.Exact.{Exact}
 use Rattle.solve_trace.specs.Nodes.{Nodes, IsFunctor, Formed}
 use Rattle.solve_trace.proofs.NodeLaws.{functor_found, known}
-use Rattle.base.proofs.CaseLaws.{same_or_other}
-use Rattle.solve_heights.proofs.OptionLaws.{some_of, not_both}
+use Rattle.std.proofs.lemmas.Bool.{cases_eq}
+use Rattle.solve_heights.proofs.OptionLaws.{some_of}
 use Rattle.solve_heights.proofs.SummandLaws.{class_low}
 use Rattle.solve_heights.specs.Peel.{height_at, Peeled}
 use Rattle.solve_heights.specs.declared.Heights.{Heights}
@@ -73,7 +72,7 @@ module _ (g : Terms) (s : State) (t : List ℕ) (r : Search) (u : ℕ) (T : Tabl
       (λ n.
       let O = R.ways.onward d x d_low a n in
       below_below (sound l p O.0 S.functor.known O.1.0 (omega (arith, O.1.1, b))) down)
-      (same_or_other (class t u) (class t p))
+      (cases_eq (class t p) (class t u))
 
   -- down from a source every class was reached
   Leads : ℕ → ℕ → Type 0
@@ -134,10 +133,10 @@ module _ (g : Terms) (t : List ℕ) (u : ℕ) (T : Table t) (F : Formed g) where
   pub peel_took : (p : Heights) → Peeled g t p → (c : ℕ) → c ≡ class t u → IsSome (height_at p.height c) → MayLeadBack g t u None
   peel_took p P c e h s N E U b =
       let a = some_of (height_at p.height c) h in
-      not_both _ a.0 (cycle_left g s t p T F N E P u b) (ap (height_at p.height) (sym e) ∙ a.1)
+      cc (cycle_left g s t p T F N E P u b, a.1)
 
   module _ (r : Search) (known : u < g.count) (R : Reached g t r u) (c : ℕ) (e : c ≡ class t u) where
     pub never_back : IsNone (down_at r c) → MayLeadBack g t u None
     never_back h s N E U b =
         let k : IsSome (down_at r c) = rw e ((searched g s t r u T F N E known R).complete u b) in
-        true_is_false (sym k ∙ h)
+        cc

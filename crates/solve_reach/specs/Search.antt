@@ -7,10 +7,11 @@
 --   Expanding      a visit of a node, some of its children looked at
 --   LeadsBack      the search from a node led back to its class
 --   MayLeadBack    it did, or the node isn't below itself
+--   MayCircle      a node was found from which it did, or no node is below itself
 use Rattle.std.specs.Prelude.{◌≡◌, ◌⊎◌, List, ℕ, suc, ◌≤◌, ◌<◌, length, Option, Some, None}
 use Rattle.std.specs.Option.{IsSome}
 use Rattle.graph.specs.State.{State}
-use Rattle.graph.specs.Closure.{Below}
+use Rattle.graph.specs.Closure.{Below, Cycle}
 use Rattle.store.specs.Views.{arity_at, child_at}
 use Rattle.store.specs.declared.Terms.{Terms}
 use Rattle.solve_classes.specs.Table.{class, Table}
@@ -19,6 +20,7 @@ use Rattle.base.specs.Sum.{sum_to}
 use Rattle.solve_trace.specs.Nodes.{Nodes, IsFunctor, Formed}
 use Rattle.solve_heights.specs.Nodes.{under}
 use Rattle.solve_reach.specs.Reach.{down_at, Reaches, Ways}
+use Rattle.solve_reach.specs.declared.Circle.{Circle}
 use Rattle.solve_reach.specs.declared.Down.{Down}
 use Rattle.solve_reach.specs.declared.Search.{Search}
 use Rattle.solve_reach.specs.declared.Searcher.{Searcher}
@@ -91,3 +93,7 @@ pub record LeadsBack (g : Terms) (t : List ℕ) (u : ℕ) (r : Search) : Type 0 
 abbrev pub MayLeadBack : Terms → List ℕ → ℕ → Option Search → Type 0
 MayLeadBack g t u (Some r) = LeadsBack g t u r
 MayLeadBack g t u None = (s : State) → Nodes g s → Exact s t → IsFunctor g u → Below s u u → ⊥
+
+abbrev pub MayCircle : Terms → List ℕ → Option Circle → Type 0
+MayCircle g t (Some c) = LeadsBack g t c.node c.search
+MayCircle g t None = (s : State) → Nodes g s → Exact s t → Cycle s → ⊥

@@ -3,20 +3,17 @@
 
 ghost use Rattle.std.specs.Prelude.{ℕ, ◌<◌, ◌≤◌, ◌≡◌};
 ghost use Rattle.base.specs.Tells.{Tells};
-ghost use Rattle.graph.specs.State.{State};
-ghost use Rattle.graph.specs.Closure.{Cycle};
 ghost use Rattle.solve_classes.specs.Table.{Table};
-ghost use Rattle.solve_classes.specs.Exact.{Exact};
-ghost use Rattle.solve_trace.specs.Nodes.{Nodes, IsFunctor, Formed};
+ghost use Rattle.solve_trace.specs.Nodes.{IsFunctor, Formed};
 ghost use Rattle.solve_heights.specs.Peel.{Peeled};
-ghost use Rattle.solve_reach.specs.Search.{Source, Explored, Reached, Reaching, MayLeadBack, LeadsBack};
+ghost use Rattle.solve_reach.specs.Search.{Source, Explored, Reached, Reaching, MayLeadBack, MayCircle};
 
 use solve_heights::Heights;
 use solve_heights::passes::{self, Visitor};
 use store::Terms;
 
 // A step down into a class: the parent, the place, counted from 1, the child there, and a level that falls on the way up.
-#[derive(Clone, Copy)]
+#[derive(Clone, Copy, Default)]
 pub struct Down {
     pub parent: u8,
     pub place: u8,
@@ -130,25 +127,20 @@ fn search_back(table: [u8; 64], heights: &Heights, t: &Terms, u: usize) -> Optio
     }
 }
 
-// A node below itself, where the peel left something.
-pub fn find_cycle(table: [u8; 64], heights: &Heights, t: &Terms) -> Circle
+// A node below itself, where there is one.
+pub fn find_cycle(table: [u8; 64], heights: &Heights, t: &Terms) -> Option<Circle>
     requires table { Table table }
     requires formed { Formed t.now }
     requires peeled { Peeled t.now table heights.now }
-    ensures { (s : State) → Nodes t.now s → Exact s table → Cycle s → LeadsBack t.now table result.node result.search }
+    ensures { MayCircle t.now table result }
 {
     for u in 0..t.count {
         if let Some(search) = search_back(table, heights, t, u) {
-            return Circle {
+            return Some(Circle {
                 node: u as u8,
                 search,
-            };
+            });
         }
     }
-    Circle {
-        node: 0,
-        search: Search {
-            reached: [None; 64],
-        },
-    }
+    None
 }

@@ -1,5 +1,5 @@
--- A loop over two slices side by side, with the places counted: what a turn takes, of equations and of children.
-use Rattle.std.proofs.Common.{◌≡◌, ◌∙◌, ap, subst, List, [], ◌∷◌, map, ℕ, ◌+◌, ◌<◌, length, take, get_or, length-take, get_or-take, arith, refl, Option, Some, Iter}
+-- A loop over two slices side by side, with the places counted: what a turn takes.
+use Rattle.std.proofs.Common.{◌≡◌, ap, subst, List, [], ◌∷◌, map, ℕ, ◌+◌, ◌<◌, length, get_or, arith, refl, Option, Some, Iter}
 use Rattle.std.proofs.lemmas.List.{length-map}
 use denote.Ref.{Bor}
 use Rattle.std.specs.declared.iter.Enumerate.{Enumerate}
@@ -10,11 +10,6 @@ use Rattle.std.specs.Slice.Iter.{iter_rest}
 use Rattle.std.proofs.iter.Yields.{fronts}
 use Rattle.std.proofs.lemmas.Iterator.{zips}
 use Rattle.std.proofs.lemmas.Slice.Zip.{zip_turn}
-use Rattle.base.proofs.TabLaws.{tab_length, tab_get_d}
-use Rattle.base.specs.Tab.{tab}
-use Rattle.store.specs.Views.{child_at}
-use Rattle.store.specs.declared.Terms.{Terms}
-use Rattle.store.specs.declared.Equations.{Equations}
 
 module _ {A B : Type 0} where
   so_far : (xs : List (ℕ × (Bor A × Bor B))) (s t : Enumerate (Zip (Iter A) (Iter B))) → Yields (enumerate_steps (zips fronts fronts)) s xs t
@@ -27,7 +22,7 @@ module _ {A B : Type 0} where
   module _ (ks : List A) (vs : List B) (xs : List (ℕ × (Bor A × Bor B))) (s t u : Enumerate (Zip (Iter A) (Iter B))) (r : Option (ℕ × (Bor A × Bor B)))
       (first : iter_rest (zip_first (enumerate_source s)) ≡ ks) (second : iter_rest (zip_second (enumerate_source s)) ≡ vs) (none : enumerate_count s ≡ 0)
       (y : Yields (enumerate_steps (zips fronts fronts)) s xs t) where
-    numbered_turn : (p : ℕ × (Bor A × Bor B)) → r ≡ Some p → enumerate_steps (zips fronts fronts) t r u
+    pub numbered_turn : (p : ℕ × (Bor A × Bor B)) → r ≡ Some p → enumerate_steps (zips fronts fronts) t r u
         → (p.0 ≡ length xs) × (length xs < length ks) × (length xs < length vs)
         × ((d : A) → p.1.0.now ≡ get_or ks (length xs) d) × ((d : B) → p.1.1.now ≡ get_or vs (length xs) d)
     numbered_turn p e h =
@@ -36,27 +31,3 @@ module _ {A B : Type 0} where
         let z = zip_turn ks vs _ _ _ (enumerate_source u) (Some p.1) first second k.0 p.1 refl g.0 in
         let l : length (map (λ (p : ℕ × (Bor A × Bor B)). p.1) xs) ≡ length xs = length-map xs _ in
         (omega (arith, k.1, g.1, none), rw l at z.0, rw l at z.1, rw l at z.2, rw l at z.3)
-
--- over the ends of the equations
-module _ (e : Equations) where
-  pub equation_turn : (xs : List (ℕ × (Bor ℕ × Bor ℕ))) (s t u : Enumerate (Zip (Iter ℕ) (Iter ℕ))) (r : Option (ℕ × (Bor ℕ × Bor ℕ)))
-      → iter_rest (zip_first (enumerate_source s)) ≡ take e.count e.left → iter_rest (zip_second (enumerate_source s)) ≡ take e.count e.right → enumerate_count s ≡ 0
-      → Yields (enumerate_steps (zips fronts fronts)) s xs t → (p : ℕ × (Bor ℕ × Bor ℕ)) → r ≡ Some p → enumerate_steps (zips fronts fronts) t r u
-      → (p.0 ≡ length xs) × (length xs < e.count) × (p.1.0.now ≡ get_or e.left (length xs) 0) × (p.1.1.now ≡ get_or e.right (length xs) 0)
-  equation_turn xs s t u r first second none y p q h =
-      let n = length xs in
-      let w = numbered_turn (take e.count e.left) (take e.count e.right) xs s t u r first second none y p q h in
-      let below : n < e.count = omega (arith, w.1, length-take e.count e.left) in
-      (w.0, below, w.3 0 ∙ get_or-take e.count e.left n 0 below, w.4 0 ∙ get_or-take e.count e.right n 0 below)
-
--- over the first m child places of two nodes
-module _ (g : Terms) (a b m : ℕ) where
-  pub child_turn : (xs : List (ℕ × (Bor ℕ × Bor ℕ))) (s t u : Enumerate (Zip (Iter ℕ) (Iter ℕ))) (r : Option (ℕ × (Bor ℕ × Bor ℕ)))
-      → iter_rest (zip_first (enumerate_source s)) ≡ tab m (child_at g a) → iter_rest (zip_second (enumerate_source s)) ≡ tab m (child_at g b) → enumerate_count s ≡ 0
-      → Yields (enumerate_steps (zips fronts fronts)) s xs t → (p : ℕ × (Bor ℕ × Bor ℕ)) → r ≡ Some p → enumerate_steps (zips fronts fronts) t r u
-      → (p.0 ≡ length xs) × (length xs < m) × (p.1.0.now ≡ child_at g a (length xs)) × (p.1.1.now ≡ child_at g b (length xs))
-  child_turn xs s t u r first second none y p q h =
-      let n = length xs in
-      let w = numbered_turn (tab m (child_at g a)) (tab m (child_at g b)) xs s t u r first second none y p q h in
-      let below : n < m = omega (arith, w.1, tab_length m (child_at g a)) in
-      (w.0, below, w.3 0 ∙ tab_get_d _ (child_at g a) n 0 below, w.4 0 ∙ tab_get_d _ (child_at g b) n 0 below)

@@ -11,9 +11,9 @@ use Rattle.solve_trace.specs.declared.Entry.TheVariants.{Equation, Children}
 use Rattle.solve_trace.specs.Trace.{Reason, equation, down}
 use Rattle.solve_trace.proofs.NodeLaws.{functor_found, alike_arities}
 
-pub by_equation_lem : (e : Equations) (t : List ℕ) (s : State) (k j : ℕ) → j ≡ k → k < e.count → EquationEnds e s
-    → Reason s t (Equation j) (get_or e.left k 0) (get_or e.right k 0)
-by_equation_lem e t s k j q h E = rw (q, ← E.lefts k h, ← E.rights k h) (equation k (E.found k h))
+pub by_equation_lem : (e : Equations) (t : List ℕ) (s : State) (k : ℕ) → k < e.count → EquationEnds e s
+    → Reason s t (Equation k) (get_or e.left k 0) (get_or e.right k 0)
+by_equation_lem e t s k h E = rw (← E.lefts k h, ← E.rights k h) (equation k (E.found k h))
 
 pub by_place : (g : Terms) (t : List ℕ) (s : State) (u v j : ℕ) → Nodes g s → Formed g → IsFunctor g u → IsFunctor g v → Alike g u v → class t u ≡ class t v
     → j < arity_at g u → Reason s t (Children u v j) (child_at g u j) (child_at g v j)

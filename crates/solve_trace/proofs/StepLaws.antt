@@ -1,5 +1,5 @@
 -- Steps of the solver put together: no step, one more step, one join.
-use Rattle.std.proofs.Common.{◌≡◌, refl, ◌∙◌, inl, inr, List, [], ◌∷◌, ℕ, ◌+◌, ◌<◌, length, arith, length-append}
+use Rattle.std.proofs.Common.{◌≡◌, refl, ◌∙◌, inl, inr, List, [], ◌∷◌, ℕ, ◌+◌, ◌<◌, length, get_or, arith, length-append}
 use borrow.Author.Count.{below_more}
 use Rattle.graph.specs.State.{State}
 use Rattle.solve_classes.specs.Table.{class}
@@ -53,9 +53,6 @@ extends_only S Q into A =
     record { ready = A.ready; more = A.more; same = A.same; grows = A.grows; traced = λ s h T. A.traced s (into s h) T }
 
 module _ (S : State → Type 0) (left right : ℕ → ℕ) where
-  pub pairs_none : (t : List ℕ) (es : List Entry) → TraceFits t es → PairsJoined S left right 0 t es t es
-  pairs_none t es R = record { extends = extends_none S t es R; joined = λ j h. absurd (omega arith) }
-
   -- one more pair of ends, as the code reads them, is joined
   pub pairs_more : (k : ℕ) {x y : ℕ} {e : Entry} {t r p : List ℕ} {es fs gs : List Entry}
       → x ≡ left k → y ≡ right k
@@ -74,7 +71,12 @@ module _ (S : State → Type 0) (left right : ℕ → ℕ) where
             (joins_ends b.0 b.1 J');
       }
 
-  -- the next pair of ends is joined already
-  pub pairs_skip : (k : ℕ) {x y : ℕ} {t r : List ℕ} {es fs : List Entry} → x ≡ left k → y ≡ right k → class r x ≡ class r y
-      → PairsJoined S left right k t es r fs → PairsJoined S left right (k + 1) t es r fs
-  pairs_skip k ex ey e P = record { extends = P.extends; joined = below_more _ k P.joined (rw (← ex, ← ey) e) }
+-- joined as two lists have them, in fewer states
+pub pairs_only : (S Q : State → Type 0) (left right : ℕ → ℕ) (xs ys : List ℕ) (k : ℕ) {t r : List ℕ} {es fs : List Entry} → length xs ≡ k
+    → ((s : State) → Q s → S s) → ((j : ℕ) → j < k → (get_or xs j 0 ≡ left j) × (get_or ys j 0 ≡ right j))
+    → PairsJoined S (λ (j : ℕ). get_or xs j 0) (λ (j : ℕ). get_or ys j 0) (length xs) t es r fs → PairsJoined Q left right k t es r fs
+pairs_only S Q left right xs ys k q into at P =
+    record {
+      extends = extends_only S Q into P.extends;
+      joined = λ j h. let a = at j h in let b = P.joined j (omega (arith, q, h)) in rw (a.0, a.1) at b;
+    }

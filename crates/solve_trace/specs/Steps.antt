@@ -3,8 +3,9 @@
 --   Joins         two nodes are joined, and the trace says why
 --   Extends       a run of merges, each traced in every state of a kind
 --   PairsJoined   such a run, after which the first k pairs of ends are joined
+--   Gives         states in which each entry of P for a place is a reason to join what two lists have there, also after further joins
 --   Places        states in which two nodes are a reason to join their children
-use Rattle.std.specs.Prelude.{◌≡◌, List, [], ◌∷◌, ◌++◌, ℕ, ◌+◌, ◌≤◌, ◌<◌, length}
+use Rattle.std.specs.Prelude.{◌≡◌, List, [], ◌∷◌, ◌++◌, ℕ, ◌+◌, ◌≤◌, ◌<◌, length, get_or}
 use Rattle.graph.specs.State.{State}
 use Rattle.store.specs.Views.{arity_at, child_at}
 use Rattle.store.specs.declared.Terms.{Terms}
@@ -33,6 +34,12 @@ pub record Extends (S : State → Type 0) (t : List ℕ) (es : List Entry) (r : 
 pub record PairsJoined (S : State → Type 0) (left right : ℕ → ℕ) (k : ℕ) (t : List ℕ) (es : List Entry) (r : List ℕ) (fs : List Entry) : Type 0 where
   pub extends : Extends S t es r fs
   pub joined : (j : ℕ) → j < k → class r (left j) ≡ class r (right j)
+
+abbrev pub Gives : (ℕ → Entry → Type 0) → List ℕ → List ℕ → List ℕ → State → Type 0
+Gives P xs ys t s =
+    (k : ℕ) (e : Entry) (r : List ℕ) → k < length xs → P k e
+    → ((x y : ℕ) → x < 64 → y < 64 → class t x ≡ class t y → class r x ≡ class r y)
+    → Reason s r e (get_or xs k 0) (get_or ys k 0)
 
 -- u and v, in one class, are a reason to join their children
 abbrev pub Places : Terms → ℕ → ℕ → State → Type 0

@@ -19,7 +19,7 @@ use Rattle.store.specs.Views.{kind_at, symbol_at, arity_at, child_at, children_a
 use Rattle.store.specs.Shape.{TermsShape, EquationsShape}
 use Rattle.store.specs.declared.Terms.{Terms}
 use Rattle.store.specs.declared.Equations.{Equations}
-use Rattle.base.proofs.CaseLaws.{below_or_from}
+use Rattle.std.proofs.lemmas.Bool.{cases_lt}
 
 -- ---- columns
 
@@ -28,7 +28,7 @@ column_of : {A : Type 0} (n m : ℕ) (f : A → ℕ) (g : ℕ → A) (l : List �
     → ((i : ℕ) → i < m → i < n → f (g i) ≡ get_or l i 0) → ((i : ℕ) → m ≤ i → i < n → get_or l i 0 ≡ 0) → column n f (tab m g) ≡ l
 column_of n m f g l z used unused =
     tab_same n (λ i. or_zero f (get_elem? (tab m g) i)) (λ i. get_or l i 0)
-    (λ i h. ⊎_elim (λ p. ap (or_zero f) (tab_at m g i p) ∙ used i p h) (λ p. ap (or_zero f) (tab_past m g i p) ∙ sym (unused i p h)) (below_or_from m i))
+    (λ i h. ⊎_elim (λ p. ap (or_zero f) (tab_at m g i p) ∙ used i p h) (λ p. ap (or_zero f) (tab_past m g i p) ∙ sym (unused i p h)) (cases_lt i m))
     ∙ array_tab n l z
 
 -- what a column holds at the place of an element
@@ -95,7 +95,7 @@ module _ (t : Terms) (S : TermsShape t) (u : ℕ) (h : u < node_limit) where
           ∙ sym (S.unused_children u j h l w)
 
       go : (b : Bool) → eqb (kind_at t u) 1 ≡ b → child_of j (cond b (functor (symbol_at t u) (children_at t u)) variable) ≡ child_at t u j
-      go true e = ⊎_elim (λ l. tab_get_d (arity_at t u) (child_at t u) j 0 l) (λ l. past l) (below_or_from (arity_at t u) j)
+      go true e = ⊎_elim (λ l. tab_get_d (arity_at t u) (child_at t u) j 0 l) (λ l. past l) (cases_lt j (arity_at t u))
       go false e = sym (child_zero j w (kind_zero e))
 
 pub pack_terms_lem : (t : Terms) → TermsShape t → pack_terms (nodes_of t) ≡ t
@@ -117,7 +117,7 @@ pack_terms_lem t S =
         ⊎_elim
         (λ l. ap (or_zero (child_of (i % 4))) (tab_at t.count (node_at t) (i / 4) l) ∙ child_of_lem t S (i / 4) u (i % 4) m)
         (λ l. ap (or_zero (child_of (i % 4))) (tab_past t.count (node_at t) (i / 4) l) ∙ sym (child_zero t S (i / 4) u (i % 4) m (S.unused_nodes (i / 4) l u)))
-        (below_or_from t.count (i / 4))
+        (cases_lt (i / 4) t.count)
         ∙ ap (λ (x : ℕ). get_or t.child x 0) e
 
     children : tab (child_limit * node_limit) (λ i. or_zero (child_of (i % 4)) (get_elem? (tab t.count (node_at t)) (i / 4))) ≡ t.child

@@ -4,19 +4,17 @@ use mathlib.Core.Bool.{false}
 use mathlib.Core.Logic.{⊎_elim}
 use mathlib.Core.List.{List, [], ◌∷◌, ◌++◌}
 use Prim.Native.Nat.{ℕ, ◌+◌, ◌<◌}
-use native.Mathlib.Nat.{le_of_suc-le-suc, eq-or-lt_of_le}
 use native.Mathlib.Omega.{arith}
 use lib.ListN.{length, get_or, set, length-set}
 use lib.Seq.{get_or-set_same, get_or-set_other}
 use Rattle.graph.specs.Limits.{equation_limit}
 use Rattle.graph.specs.State.{equation_of, name_held}
-use Rattle.base.proofs.AbsurdLaws.{true_is_false}
 use Rattle.base.proofs.TabLaws.{tab_put}
 use Rattle.store.specs.Views.{equation_at, equations_of}
 use Rattle.store.specs.Shape.{EquationsShape}
 use Rattle.store.specs.Operations.{with_equation, PutsEquation}
 use Rattle.store.specs.declared.Equations.{Equations}
-use Rattle.base.proofs.CaseLaws.{same_or_other}
+use Rattle.std.proofs.lemmas.Bool.{cases_eq}
 use Rattle.store.proofs.RemoveLaws.{held_at}
 
 -- the array's lengths, as the struct's own rule says
@@ -48,19 +46,19 @@ module _ (e : Equations) (n u v : ℕ) (F : Full e) (room : e.count < equation_l
     left_size = length-set e.left e.count u ∙ s.left_size;
     right_size = length-set e.right e.count v ∙ s.right_size;
     few = omega arith;
-    lefts = λ i h. ⊎_elim (λ q. rw (new e.left u i F.lefts q) hu) (λ d. rw (other e.left u i d) (s.lefts i (before i h d))) (same_or_other e.count i);
-    rights = λ i h. ⊎_elim (λ q. rw (new e.right v i F.rights q) hv) (λ d. rw (other e.right v i d) (s.rights i (before i h d))) (same_or_other e.count i);
-    distinct = λ i j l h q. ⊎_elim (λ p. new_name i (omega arith) (sym (other e.name n i (λ z. omega arith)) ∙ q ∙ new e.name n j F.names p)) (λ d. s.distinct i j l (before j h d) (sym (other e.name n i (λ z. omega (arith, before j h d))) ∙ q ∙ other e.name n j d)) (same_or_other e.count j);
+    lefts = λ i h. ⊎_elim (λ q. rw (new e.left u i F.lefts q) hu) (λ d. rw (other e.left u i d) (s.lefts i (before i h d))) (cases_eq i e.count);
+    rights = λ i h. ⊎_elim (λ q. rw (new e.right v i F.rights q) hv) (λ d. rw (other e.right v i d) (s.rights i (before i h d))) (cases_eq i e.count);
+    distinct = λ i j l h q. ⊎_elim (λ p. new_name i (omega arith) (sym (other e.name n i (λ z. omega arith)) ∙ q ∙ new e.name n j F.names p)) (λ d. s.distinct i j l (before j h d) (sym (other e.name n i (λ z. omega (arith, before j h d))) ∙ q ∙ other e.name n j d)) (cases_eq j e.count);
     unused_names = λ i h l. other e.name n i (λ q. omega arith) ∙ s.unused_names i (omega arith) l;
     unused_lefts = λ i h l. other e.left u i (λ q. omega arith) ∙ s.unused_lefts i (omega arith) l;
     unused_rights = λ i h l. other e.right v i (λ q. omega arith) ∙ s.unused_rights i (omega arith) l;
   }
     where
       before : (i : ℕ) → i < e.count + 1 → (i ≡ e.count → ⊥) → i < e.count
-      before i h d = ⊎_elim (λ q. absurd (d q)) (λ q. q) (eq-or-lt_of_le (le_of_suc-le-suc (omega (arith, h))))
+      before i h d = omega arith
 
       new_name : (i : ℕ) → i < e.count → get_or e.name i 0 ≡ n → ⊥
-      new_name i h q = true_is_false (sym (held_at n e.count (equation_at e) i h q) ∙ unheld)
+      new_name i h q = cc (held_at n e.count (equation_at e) i h q)
 
   pub puts_equation : PutsEquation e n u v (with_equation e n u v)
   puts_equation = record { exact = refl; count = refl; held = equation_list; shape = equation_shape }

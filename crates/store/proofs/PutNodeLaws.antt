@@ -16,7 +16,7 @@ use Rattle.store.specs.Views.{kind_at, symbol_at, arity_at, child_at, children_a
 use Rattle.store.specs.Shape.{TermsShape}
 use Rattle.store.specs.Operations.{with_variable, with_functor, Room, PutsNode}
 use Rattle.store.specs.declared.Terms.{Terms}
-use Rattle.base.proofs.CaseLaws.{below_or_from, same_or_other}
+use Rattle.std.proofs.lemmas.Bool.{cases_eq, cases_lt}
 use Rattle.store.proofs.BelowLaws.{below_each}
 
 -- ---- a variable
@@ -111,7 +111,7 @@ module _ (t : Terms) (f : ℕ) (cs : List ℕ) (S : TermsShape t) (R : Room t f 
       ⊎_elim
       (λ l. paste_before t.child (4 * t.count) cs fits (4 * u + j) (omega arith))
       (λ l. paste_past t.child (4 * t.count) cs fits (4 * u + j) (omega (arith, R.few, beyond l)))
-      (below_or_from t.count u)
+      (cases_lt u t.count)
     where
       beyond : t.count ≤ u → t.count < u
       beyond l = ⊎_elim (λ q. absurd (e (sym q))) (λ q. q) (eq-or-lt_of_le l)
@@ -151,11 +151,11 @@ module _ (t : Terms) (f : ℕ) (cs : List ℕ) (S : TermsShape t) (R : Room t f 
     arity_size = length-set t.arity t.count (length cs) ∙ S.arity_size;
     child_size = length-paste t.child (4 * t.count) cs (length cs) fits (omega arith) ∙ S.child_size;
     few = omega (arith, R.room);
-    kinds = λ u l. ⊎_elim (λ q. omega (arith, ap (kind_at (with_functor t f cs)) q, kind_new)) (λ d. rw (kind_other u d) (S.kinds u l)) (same_or_other t.count u);
-    arities = λ u l. ⊎_elim (λ q. omega (arith, ap (arity_at (with_functor t f cs)) q, arity_new, R.few)) (λ d. rw (arity_other u d) (S.arities u l)) (same_or_other t.count u);
-    earlier = λ u j l h. ⊎_elim (λ q. earlier_new u j q h) (λ d. earlier_other u j d l h) (same_or_other t.count u);
-    unused_children = λ u j l h w. ⊎_elim (λ q. unused_new u j q h w) (λ d. child_other u j d w ∙ S.unused_children u j l (rw (arity_other u d) at h) w) (same_or_other t.count u);
-    variables = λ u l e. ⊎_elim (λ q. absurd (variable_new u q e)) (λ d. variable_other u d l e) (same_or_other t.count u);
+    kinds = λ u l. ⊎_elim (λ q. omega (arith, ap (kind_at (with_functor t f cs)) q, kind_new)) (λ d. rw (kind_other u d) (S.kinds u l)) (cases_eq u t.count);
+    arities = λ u l. ⊎_elim (λ q. omega (arith, ap (arity_at (with_functor t f cs)) q, arity_new, R.few)) (λ d. rw (arity_other u d) (S.arities u l)) (cases_eq u t.count);
+    earlier = λ u j l h. ⊎_elim (λ q. earlier_new u j q h) (λ d. earlier_other u j d l h) (cases_eq u t.count);
+    unused_children = λ u j l h w. ⊎_elim (λ q. unused_new u j q h w) (λ d. child_other u j d w ∙ S.unused_children u j l (rw (arity_other u d) at h) w) (cases_eq u t.count);
+    variables = λ u l e. ⊎_elim (λ q. absurd (variable_new u q e)) (λ d. variable_other u d l e) (cases_eq u t.count);
     unused_nodes = λ u h w. kind_other u (λ q. omega arith) ∙ S.unused_nodes u (omega arith) w;
     one_arity = subst OneArity (sym functor_nodes) (one_arity_declared (nodes_of t) (functor f cs) R.fits S.one_arity);
   }

@@ -6,7 +6,7 @@ use mathlib.Core.List.{List, [], ◌∷◌}
 use Prim.Native.Nat.{ℕ, zero, suc, ◌+◌, ◌-◌, ◌≤◌, ◌<◌}
 use native.Mathlib.Nat.{not-suc-le-zero, le_of_suc-le-suc, eq-or-lt_of_le}
 use native.Mathlib.Omega.{arith}
-use lib.Dec.{eqb, ltb}
+use lib.Dec.{eqb}
 use lib.ListN.{length, get_or, set, length-set, get_or-eq_default}
 use lib.Seq.{get_or-set_same, get_or-set_other, ext_get_or}
 use borrow.Author.Tests.{eq-eqb, ne_eqb, lt-ltb, le-ltb}
@@ -15,13 +15,12 @@ use Rattle.graph.specs.Limits.{equation_limit}
 use Rattle.graph.specs.State.{Equation, name_held}
 use Rattle.graph.specs.Book.{removed}
 use Rattle.base.specs.Tab.{tab}
-use Rattle.base.proofs.AbsurdLaws.{true_is_false}
 use Rattle.base.proofs.TabLaws.{tab_length, tab_get_d, tab_same}
 use Rattle.store.specs.Views.{equation_at, equations_of}
 use Rattle.store.specs.Shape.{EquationsShape}
 use Rattle.store.specs.Operations.{First, skip, closed, without_place, Removes}
 use Rattle.store.specs.declared.Equations.{Equations}
-use Rattle.base.proofs.CaseLaws.{below_or_from, same_or_other}
+use Rattle.std.proofs.lemmas.Bool.{cases_eq, cases_lt}
 
 -- ---- one place taken out of an array
 
@@ -32,17 +31,17 @@ pub skip_after : (k i : ℕ) → k ≤ i → skip k i ≡ suc i
 skip_after k i h = rw (le-ltb i k h)
 
 pub skip_from : (k i : ℕ) → i ≤ skip k i
-skip_from k i = ⊎_elim (λ h. omega (arith, skip_before k i h)) (λ h. omega (arith, skip_after k i h)) (below_or_from k i)
+skip_from k i = ⊎_elim (λ h. omega (arith, skip_before k i h)) (λ h. omega (arith, skip_after k i h)) (cases_lt i k)
 
 pub skip_below : (k i m : ℕ) → k < m → i < m - 1 → skip k i < m
-skip_below k i m h g = ⊎_elim (λ p. omega (arith, skip_before k i p)) (λ p. omega (arith, skip_after k i p)) (below_or_from k i)
+skip_below k i m h g = ⊎_elim (λ p. omega (arith, skip_before k i p)) (λ p. omega (arith, skip_after k i p)) (cases_lt i k)
 
 pub skip_rises : (k i j : ℕ) → i < j → skip k i < skip k j
 skip_rises k i j h =
     ⊎_elim
     (λ p. omega (arith, skip_before k i p, skip_from k j))
     (λ p. omega (arith, skip_after k i p, skip_after k j (omega arith)))
-    (below_or_from k i)
+    (cases_lt i k)
 
 module _ {A : Type 0} (z : A) (k : ℕ) (l : List A) where
   pub closed_length : length (closed z k l) ≡ length l
@@ -57,7 +56,7 @@ module _ {A : Type 0} (z : A) (k : ℕ) (l : List A) where
       (λ h.
       get_or-eq_default (closed z k l) z (omega (arith, closed_length))
       ∙ sym (get_or-eq_default l z (omega (arith, skip_from k i))))
-      (below_or_from (length l) i)
+      (cases_lt i (length l))
 
   -- the elements after k copied one place down, and z stored at the last place, m
   pub closed_copy : (r : List A) (m : ℕ) → k < length l → m ≡ length l - 1 → length r ≡ length l → SameBelow l r k
@@ -76,11 +75,11 @@ module _ {A : Type 0} (z : A) (k : ℕ) (l : List A) where
           (λ d. get_or-set_other r m i z z d ∙ ⊎_elim
           (λ q. below i z q ∙ ap (λ (x : ℕ). get_or l x z) (sym (skip_before k i q)))
           (λ q. let w : i < m = omega (arith, lt_of_not i d) in after i z q (omega arith) ∙ ap (λ (x : ℕ). get_or l x z) (omega (arith, skip_after k i q)))
-          (below_or_from k i))
-          (same_or_other m i)
+          (cases_lt i k))
+          (cases_eq i m)
         where
           lt_of_not : (i : ℕ) → (i ≡ m → ⊥) → i < length l → i < m
-          lt_of_not i d p = ⊎_elim (λ q. absurd (d q)) (λ q. q) (eq-or-lt_of_le (omega (arith, p)))
+          lt_of_not i d p = omega arith
 
 -- ---- names
 
@@ -131,10 +130,6 @@ module _ (e : Equations) (n k : ℕ) (at : First e.name e.count n k) where
   unfolding equations_of
   held_none h = held_not n e.count (equation_at e) (λ i p. at.before i (omega arith))
 
-  pub held_tells : name_held n (equations_of e) ≡ ltb k e.count
-  held_tells =
-      ⊎_elim (λ h. held_first h ∙ sym (lt-ltb k e.count h)) (λ h. held_none h ∙ sym (le-ltb k e.count h)) (below_or_from e.count k)
-
 -- ---- the equation at the first place of the name taken out
 
 pub first_one : (l : List ℕ) (n x j k : ℕ) → First l n x j → First l n x k → j ≡ k
@@ -142,7 +137,7 @@ first_one l n x j k a b =
     ⊎_elim
     (λ h. absurd (b.before j h (a.here (omega (arith, b.within)))))
     (λ h. ⊎_elim (λ e. sym e) (λ g. absurd (a.before k g (b.here (omega (arith, a.within))))) (eq-or-lt_of_le h))
-    (below_or_from k j)
+    (cases_lt j k)
 
 module _ (e : Equations) (k : ℕ) (room : k < e.count) where
   pub equation_after : (i : ℕ) → equation_at (without_place k e) i ≡ equation_at e (skip k i)
@@ -170,7 +165,7 @@ module _ (e : Equations) (k : ℕ) (room : k < e.count) where
       unused l z u i h g =
           let q : skip k i ≡ suc i = skip_after k i (omega arith) in
           ap (λ (j : ℕ). get_or l j 0) q
-          ∙ ⊎_elim (λ p. u (suc i) (omega arith) p) (λ p. get_or-eq_default l 0 (omega arith)) (below_or_from equation_limit (suc i))
+          ∙ ⊎_elim (λ p. u (suc i) (omega arith) p) (λ p. get_or-eq_default l 0 (omega arith)) (cases_lt (suc i) equation_limit)
 
 module _ (e : Equations) (n k : ℕ) (at : First e.name e.count n k) where
   pub removes : k < e.count → Removes e n true (without_place k e)
@@ -179,7 +174,7 @@ module _ (e : Equations) (n k : ℕ) (at : First e.name e.count n k) where
     found = sym (held_first e n k at h);
     held = list (e.count - 1) (omega arith);
     exact = λ j f l. ap (λ (i : ℕ). without_place i e) (first_one e.name e.count n k j at f);
-    kept = λ no. true_is_false (sym (held_first e n k at h) ∙ no);
+    kept = λ no. cc (held_first e n k at h);
     shape = shape_after e k h;
   }
     where

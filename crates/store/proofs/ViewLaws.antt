@@ -9,7 +9,6 @@ use lib.Dec.{eqb}
 use lib.ListN.{length, get_elem?}
 use borrow.Author.Tests.{eq-eqb, ne_eqb, eqb-true}
 use Rattle.graph.specs.State.{Node, variable, functor, Equation, IsNode, NodeAt, ChildAt, Held, Proper}
-use Rattle.base.proofs.AbsurdLaws.{zero_is_one}
 use Rattle.base.proofs.TabLaws.{tab_length, tab_at, tab_known}
 use Rattle.store.specs.Views.{kind_at, symbol_at, arity_at, child_at, children_at, node_at, nodes_of, equation_at, equations_of, state_from}
 use Rattle.store.specs.Shape.{Shape}
@@ -43,7 +42,7 @@ module _ (t : Terms) where
       go : (b : Bool) → eqb (kind_at t u) 1 ≡ b → u < t.count → cond b (functor (symbol_at t u) (children_at t u)) variable ≡ functor f cs
           → (u < t.count) × (kind_at t u ≡ 1) × (symbol_at t u ≡ f) × (children_at t u ≡ cs)
       go true e l q = (l, eqb-true _ _ e, cc, cc)
-      go false e l q = zero_is_one cc
+      go false e l q = cc
 
   -- any kind but 1 is a variable
   pub variable_found : (u : ℕ) → u < t.count → (kind_at t u ≡ 1 → ⊥) → get_elem? (nodes_of t) u ≡ some variable

@@ -11,9 +11,11 @@ ghost use Rattle.store.specs.Operations.{Finds, Room, PutsNode, PutsEquation, Re
 ghost use Rattle.store.specs.Heads.{Meets};
 
 // The declared nodes: the first `count` places of each array are used. Kind 0 is a variable, 1 a functor node. The children of
-// node u stand at places 4 u to 4 u + 3.
+// node u stand at places 4 u to 4 u + 3. Arrays side by side, as document 01 wants them. A kind is a number, a node a plain u8, and there is
+// no invariant: a caller may hand in any values, C's among them, and is refused with 1 where they are no workspace. So what is known of
+// nodes and equations stands in the contracts of those who need it.
 #[repr(C)]
-#[derive(Clone, Copy)]
+#[derive(Clone, Copy, PartialEq, Eq, Debug)]
 pub struct Terms {
     pub count: usize,
     pub kind: [u8; 64],
@@ -24,7 +26,7 @@ pub struct Terms {
 
 // The held equations, in the order taken.
 #[repr(C)]
-#[derive(Clone, Copy)]
+#[derive(Clone, Copy, PartialEq, Eq, Debug)]
 pub struct Equations {
     pub count: usize,
     pub name: [u16; 256],

@@ -14,13 +14,13 @@ use lib.ListN.{get_or, get_elem?, set, replicate, length-set, length-replicate, 
 use lib.Seq.{get_or-set_same, get_or-set_other}
 use lib.Dec.{eqb}
 use borrow.Author.Tests.{eq-eqb, ne_eqb}
+use borrow.Author.Count.{below_more}
 use Rattle.std.specs.Prelude.{Option, Some, None}
 use Rattle.graph.specs.State.{Node, functor, OneArity}
 use Rattle.graph.specs.Book.{arity_fits, node_fits}
 use Rattle.graph.proofs.ArityLaws.{at_fits, fits_by_one, one_arity_empty, one_arity_declared, last_fits}
+use Rattle.std.proofs.lemmas.Bool.{cases_eq, cases_lt}
 use Rattle.base.specs.Tells.{Tells}
-use Rattle.base.proofs.AbsurdLaws.{true_is_false}
-use Rattle.base.proofs.CaseLaws.{same_or_other, last_or_before}
 use Rattle.base.proofs.TabLaws.{tab_none}
 use Rattle.base.proofs.TellLaws.{tells_not}
 use Rattle.store.specs.Views.{kind_at, symbol_at, arity_at, children_at, node_at, nodes_of}
@@ -55,7 +55,7 @@ module _ (t : Terms) where
   rule_not u n r h e f =
       tells_not (λ O.
       let o : OneArity (nodes_of (first_nodes t u) ++ (node_at t u ∷ [])) = subst OneArity (nodes_more t u) (rule_fewer (u + 1) n (omega arith) O) in
-      true_is_false (sym (last_fits (nodes_of (first_nodes t u)) (node_at t u) o) ∙ sym f ∙ e))
+      cc (last_fits (nodes_of (first_nodes t u)) (node_at t u) o))
 
   -- ---- heads
 
@@ -77,7 +77,7 @@ module _ (t : Terms) where
       size = H.size;
       earlier = λ h v l e. omega (arith, H.earlier h v l e);
       functor = H.functor;
-      headed = λ v l k. ⊎_elim (λ q. rw q (own (rw q at k))) (λ q. H.headed v q k) (last_or_before u v l);
+      headed = below_more _ u H.headed own;
     }
 
     module _ (k : kind_at t u ≡ 1) where
@@ -102,12 +102,12 @@ module _ (t : Terms) where
       unfolding at
       became = record {
         size = length-set head at (Some u) ∙ H.size;
-        earlier = λ h v l e. ⊎_elim (λ q. omega (arith, now_u h v q e)) (λ d. omega (arith, H.earlier h v l (sym (there h d) ∙ e))) (same_or_other at h);
-        functor = λ h v l e. ⊎_elim (λ q. rw (now_u h v q e) k) (λ d. H.functor h v l (sym (there h d) ∙ e)) (same_or_other at h);
+        earlier = λ h v l e. ⊎_elim (λ q. omega (arith, now_u h v q e)) (λ d. omega (arith, H.earlier h v l (sym (there h d) ∙ e))) (cases_eq h at);
+        functor = λ h v l e. ⊎_elim (λ q. rw (now_u h v q e) k) (λ d. H.functor h v l (sym (there h d) ∙ e)) (cases_eq h at);
         headed = λ v l c e.
             ⊎_elim (λ q. let n : get_or (set head at (Some u)) (symbol_at t v % 64) None ≡ Some u = here (symbol_at t v % 64) q in cc)
-            (λ d. ⊎_elim (λ q. d (ap (λ (x : ℕ). symbol_at t x % 64) q)) (λ q. H.headed v q c (sym (there (symbol_at t v % 64) d) ∙ e)) (last_or_before u v l))
-            (same_or_other at (symbol_at t v % 64));
+            (λ d. ⊎_elim (λ q. H.headed v q c (sym (there (symbol_at t v % 64) d) ∙ e)) (λ q. let w : v ≡ u = omega arith in d (ap (λ (x : ℕ). symbol_at t x % 64) w)) (cases_lt v u))
+            (cases_eq (symbol_at t v % 64) at);
       }
 
     pub heads_more : {next : List (Option ℕ)} {m : Option ℕ} (c : ℕ) → c ≡ symbol_at t u % 64 → Meets head c t u next m → SymbolHeads t next (u + 1)

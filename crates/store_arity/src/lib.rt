@@ -13,7 +13,8 @@ ghost use Rattle.store_arity.specs.SymbolHeads.{SymbolHeads};
 use store::Terms;
 
 // Whether each functor node of symbol f among the first n has k children. No way out in the middle, so that the compiler can take many
-// nodes at a time.
+// nodes at a time: with one, the shape test of 64 symbols of one remainder took 2.5 times plain Rust's time, and not 1.1; it is part of each
+// call, whose goal is 1.3.
 #[tactic(auto, using(crate::proofs::FitLaws::fits_none, crate::proofs::FitLaws::fits_more))]
 pub fn arity_fits(t: &Terms, n: usize, f: u16, k: u8) -> bool
     requires { n ≤ node_limit }

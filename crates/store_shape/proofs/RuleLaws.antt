@@ -1,6 +1,6 @@
 -- Tests of each element of a list, and what they tell of an array's places.
 use mathlib.Core.Path.{◌≡◌, refl, sym, ap, ◌∙◌}
-use mathlib.Core.Bool.{Bool, true, false, ◌&&◌}
+use mathlib.Core.Bool.{Bool, true, ◌&&◌, and-true, and_assoc}
 use mathlib.Core.List.{List, [], ◌∷◌}
 use Prim.Native.Nat.{ℕ, ◌+◌, ◌-◌, ◌≤◌, ◌<◌}
 use native.Mathlib.Omega.{arith}
@@ -11,7 +11,6 @@ use Rattle.std.specs.List.{fold, list_all}
 use Rattle.std.proofs.lemmas.List.Recursion.{and_at, and_from_places}
 use Rattle.std.proofs.lemmas.List.{get_or-take, get_or-drop, length-take-le}
 use Rattle.store_shape.specs.Rules.{EachBelow, ZeroFrom}
-use Rattle.base.proofs.AbsurdLaws.{true_is_false}
 use Rattle.base.specs.Tells.{Tells, Each}
 use Rattle.base.proofs.TellLaws.{tells_true, tells_same, tells_eq, tells_lt}
 
@@ -19,16 +18,8 @@ use Rattle.base.proofs.TellLaws.{tells_true, tells_same, tells_eq, tells_lt}
 
 -- many at a time, from a on
 fold_all : {X : Type 0} (p : X → Bool) (a : Bool) (xs : List X) → fold (λ ok x. ok && p x) a xs ≡ a && list_all p xs
-fold_all p a [] = and_true a
-  where
-    and_true : (a : Bool) → a ≡ a && true
-    and_true true = refl
-    and_true false = refl
+fold_all p a [] = sym (and-true a)
 fold_all p a (x ∷ xs) = fold_all p (a && p x) xs ∙ and_assoc a (p x) (list_all p xs)
-  where
-    and_assoc : (a b c : Bool) → (a && b) && c ≡ a && (b && c)
-    and_assoc true b c = refl
-    and_assoc false b c = refl
 
 pub fold_each : {X : Type 0} (p : X → Bool) (xs : List X) → fold (λ ok x. ok && p x) true xs ≡ list_all p xs
 fold_each p xs = fold_all p true xs
@@ -37,7 +28,7 @@ tells_all : {X : Type 0} (p : X → Bool) (P : ℕ → Type 0) (xs : List X) (d 
     → Tells (Each P (length xs)) (list_all p xs)
 tells_all p P xs d t = record {
   holds = λ e i l. (t i l).holds (and_at (list_all p) p refl (λ x xs. refl) xs i d l e);
-  fails = λ e q. true_is_false (sym (and_from_places (list_all p) p refl (λ x xs. refl) xs d (λ i l. tells_true (t i l) (q i l))) ∙ e);
+  fails = λ e q. cc (and_from_places (list_all p) p refl (λ x xs. refl) xs d (λ i l. tells_true (t i l) (q i l)));
 }
 
 -- what the test of an array's places from k on tells; m is the array's length

@@ -12,7 +12,7 @@ use Rattle.store.specs.Views.{kind_at, symbol_at, arity_at, nodes_of}
 use Rattle.store.specs.Shape.{TermsShape}
 use Rattle.store.specs.declared.Terms.{Terms}
 use Rattle.store.specs.declared.Equations.{Equations}
-use Rattle.base.proofs.CaseLaws.{below_or_from}
+use Rattle.std.proofs.lemmas.Bool.{cases_lt}
 use Rattle.store_shape.specs.Rules.{EachBelow, ZeroFrom, NodeRule, EndRules}
 use Rattle.base.specs.Tells.{Tells, Each}
 use Rattle.base.proofs.TellLaws.{tells_same, tells_both}
@@ -43,12 +43,12 @@ module _ (t : Terms) (Z : Sizes t) (few : t.count ≤ node_limit) where
     arity_size = Z.arities;
     child_size = Z.children;
     few = few;
-    kinds = λ u h. ⊎_elim (λ l. (R.used u l).head.kind) (λ l. omega (arith, kind_zero u h l)) (below_or_from t.count u);
-    arities = λ u h. ⊎_elim (λ l. (R.used u l).head.arity) (λ l. omega (arith, arity_zero u h l)) (below_or_from t.count u);
+    kinds = λ u h. ⊎_elim (λ l. (R.used u l).head.kind) (λ l. omega (arith, kind_zero u h l)) (cases_lt u t.count);
+    arities = λ u h. ⊎_elim (λ l. (R.used u l).head.arity) (λ l. omega (arith, arity_zero u h l)) (cases_lt u t.count);
     earlier = λ u j h g.
-        ⊎_elim (λ l. ((R.used u l).places j (omega (arith, g, (R.used u l).head.arity))).earlier g) (λ l. absurd (omega (arith, g, arity_zero u h l))) (below_or_from t.count u);
-    unused_children = λ u j h g w. ⊎_elim (λ l. ((R.used u l).places j w).unused g) (λ l. R.children (4 * u + j) (omega (arith, Z.children)) (omega arith)) (below_or_from t.count u);
-    variables = λ u h e. ⊎_elim (λ l. ((R.used u l).head.symbol_zero e, (R.used u l).head.arity_zero e)) (λ l. (R.symbols u (omega (arith, Z.symbols)) l, arity_zero u h l)) (below_or_from t.count u);
+        ⊎_elim (λ l. ((R.used u l).places j (omega (arith, g, (R.used u l).head.arity))).earlier g) (λ l. absurd (omega (arith, g, arity_zero u h l))) (cases_lt u t.count);
+    unused_children = λ u j h g w. ⊎_elim (λ l. ((R.used u l).places j w).unused g) (λ l. R.children (4 * u + j) (omega (arith, Z.children)) (omega arith)) (cases_lt u t.count);
+    variables = λ u h e. ⊎_elim (λ l. ((R.used u l).head.symbol_zero e, (R.used u l).head.arity_zero e)) (λ l. (R.symbols u (omega (arith, Z.symbols)) l, arity_zero u h l)) (cases_lt u t.count);
     unused_nodes = λ u l h. kind_zero u h l;
     one_arity = R.fitting;
   }

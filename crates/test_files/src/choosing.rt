@@ -1,6 +1,4 @@
 // The shorter of two: which list, its bytes, and each refusal.
-ghost use Rattle.std.specs.Prelude.{◌<◌};
-
 use super::replies::{choose, chosen};
 use super::{proved, sample};
 use arrayvec::ArrayVec;
@@ -63,12 +61,16 @@ fn show(rt: &impl Print, w: Workspace, x: Question, a: &[u8], b: &[u8]) -> io::R
 
 // Every pair of eight lists, for 5 same 2.
 
-fn with_first(rt: &impl Print, w: Workspace, lists: &[&[u8]; 8], i: usize) -> io::Result<()>
-    requires { i < 8 }
-{
+fn with_first(
+    rt: &impl Print,
+    w: Workspace,
+    lists: &[&[u8]; 8],
+    i: usize,
+    a: &[u8],
+) -> io::Result<()> {
     for (j, b) in lists.iter().enumerate() {
         print!(rt; "lists {i} and {j}")?;
-        show(rt, w, sample::same(5, 2), lists[i], b)?;
+        show(rt, w, sample::same(5, 2), a, b)?;
     }
     Ok(())
 }
@@ -92,8 +94,8 @@ pub fn lists(rt: &impl Print, w: Workspace, p: &[u8]) -> io::Result<()> {
         &itself[..0],
         &itself[..],
     ];
-    for i in 0..8 {
-        with_first(rt, w, &lists, i)?;
+    for (i, a) in lists.iter().enumerate() {
+        with_first(rt, w, &lists, i, a)?;
     }
     Ok(())
 }

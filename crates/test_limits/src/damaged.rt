@@ -47,7 +47,7 @@ impl Counts {
     fn called(&mut self, w: &Workspace, a: Answer, proof: &[u8]) {
         let refused = a.reply == Reply::Refused(Refusal::NotAWorkspace);
         expect(refused, &mut self.refused, &mut self.otherwise);
-        let same = workspaces::equal(&a.workspace, w) && untouched(proof);
+        let same = a.workspace == *w && untouched(proof);
         expect(same, &mut self.came_back, &mut self.otherwise);
     }
 
@@ -169,43 +169,17 @@ impl Field {
     }
 }
 
-fn place(counts: &mut Counts, valid: &Workspace, proof: &mut [u8], field: Field, i: usize) {
-    for x in field.bad(i) {
-        let mut w = *valid;
-        field.put(&mut w, i, *x);
-        counts.calls(&w, proof);
-    }
-}
-
-fn column(counts: &mut Counts, valid: &Workspace, proof: &mut [u8], field: Field) {
-    for i in 0..field.places() {
-        place(counts, valid, proof, field, i);
-    }
-}
-
-fn columns(counts: &mut Counts, valid: &Workspace, proof: &mut [u8]) {
-    for field in FIELDS {
-        column(counts, valid, proof, field);
-    }
-}
-
-// One too low leaves a place that is not zero; the others are no counts.
-
-fn node_counts(counts: &mut Counts, valid: &Workspace, proof: &mut [u8]) {
-    for count in [0, 4, 65, usize::MAX] {
-        let mut w = *valid;
-        w.terms.count = count;
-        counts.calls(&w, proof);
-    }
-}
-
-fn equation_counts(counts: &mut Counts, valid: &Workspace, proof: &mut [u8]) {
-    for count in [0, 1, 257, usize::MAX] {
-        let mut w = *valid;
-        w.equations.count = count;
-        counts.calls(&w, proof);
-    }
-}
+// How many nodes and equations, of the valid 5 and 2 one of them changed: one too low leaves a place that is not zero; the others are no counts.
+const LENGTHS: [(usize, usize); 8] = [
+    (0, 2),
+    (4, 2),
+    (65, 2),
+    (usize::MAX, 2),
+    (5, 0),
+    (5, 1),
+    (5, 257),
+    (5, usize::MAX),
+];
 
 // Left and right of the two equations: two clashes, and then cycles.
 const UNSOLVABLE: [([u8; 2], [u8; 2]); 6] = [
@@ -217,12 +191,51 @@ const UNSOLVABLE: [([u8; 2], [u8; 2]); 6] = [
     ([0, 1], [1, 3]),
 ];
 
-fn unsolvable(counts: &mut Counts, valid: &Workspace, proof: &mut [u8]) {
-    for (left, right) in UNSOLVABLE {
-        let mut w = *valid;
-        w.equations.left[..2].copy_from_slice(&left);
-        w.equations.right[..2].copy_from_slice(&right);
-        counts.calls(&w, proof);
+// The valid workspace, damaged in each way in turn, with the buffer that its calls are lent and what comes of them.
+#[derive(Drop)]
+struct Run<'a> {
+    valid: Workspace,
+    proof: &'a mut [u8],
+    counts: Counts,
+}
+
+impl<'a> Run<'a> {
+    fn place(&mut self, field: Field, i: usize) {
+        for x in field.bad(i) {
+            let mut w = self.valid;
+            field.put(&mut w, i, *x);
+            self.counts.calls(&w, self.proof);
+        }
+    }
+
+    fn column(&mut self, field: Field) {
+        for i in 0..field.places() {
+            self.place(field, i);
+        }
+    }
+
+    fn columns(&mut self) {
+        for field in FIELDS {
+            self.column(field);
+        }
+    }
+
+    fn lengths(&mut self) {
+        for (nodes, equations) in LENGTHS {
+            let mut w = self.valid;
+            w.terms.count = nodes;
+            w.equations.count = equations;
+            self.counts.calls(&w, self.proof);
+        }
+    }
+
+    fn unsolvable(&mut self) {
+        for (left, right) in UNSOLVABLE {
+            let mut w = self.valid;
+            w.equations.left[..2].copy_from_slice(&left);
+            w.equations.right[..2].copy_from_slice(&right);
+            self.counts.calls(&w, self.proof);
+        }
     }
 }
 
@@ -241,10 +254,13 @@ pub fn all(rt: &impl Print, proof: &mut [u8]) -> io::Result<()> {
     let valid = valid();
     let accepted = Answer::class(valid.class_of(0)).reply;
     println!(rt; "refusals of the valid workspace: {}", accepted.number())?;
-    let mut counts = Counts::default();
-    columns(&mut counts, &valid, proof);
-    node_counts(&mut counts, &valid, proof);
-    equation_counts(&mut counts, &valid, proof);
-    unsolvable(&mut counts, &valid, proof);
-    show(rt, counts)
+    let mut run = Run {
+        valid,
+        proof,
+        counts: Counts::default(),
+    };
+    run.columns();
+    run.lengths();
+    run.unsolvable();
+    show(rt, run.counts)
 }

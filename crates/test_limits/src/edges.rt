@@ -7,7 +7,7 @@ use test_tools::replies::{Answer, Reply};
 use test_tools::workspaces;
 use unifier::Workspace;
 
-// A reply, in words.
+// A reply, in words. No `Display` of `Reply`: its arms would be these, with one word for eight replies that only this program uses.
 fn said(rt: &impl Print, what: &str, reply: Reply) -> io::Result<()> {
     match reply {
         Reply::Refused(r) => println!(rt; "{what}: refused {}", r.number()),

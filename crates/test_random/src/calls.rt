@@ -1,5 +1,4 @@
 // The calls that change the workspace, each held against the book and the other solver.
-use super::picks::Change;
 use super::run::Run;
 use refusals::Refusal;
 use test_solver::book::{Equation, Functor, Node};
@@ -129,12 +128,15 @@ impl Run {
         self.told(a, owed);
     }
 
+    /// One of these calls, by its share of a hundred.
     pub fn change(&mut self) {
-        match self.pick_change() {
-            Change::Variable => self.variable(),
-            Change::Functor => self.functor(),
-            Change::Equate => self.equate(),
-            Change::Withdraw => self.withdraw(),
+        let k = self.rng.below(100);
+        let declares = self.declares();
+        match k {
+            0..12 if declares => self.variable(),
+            12..50 if declares => self.functor(),
+            0..90 => self.equate(),
+            _ => self.withdraw(),
         }
     }
 

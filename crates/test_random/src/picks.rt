@@ -45,15 +45,6 @@ impl Round {
     }
 }
 
-/// A call that changes the workspace.
-#[derive(Clone, Copy)]
-pub enum Change {
-    Variable,
-    Functor,
-    Equate,
-    Withdraw,
-}
-
 // A field of a line.
 fn field(rng: &mut Rng, n: u8) -> u8
     ensures { result ≤ n - 1 }
@@ -78,16 +69,9 @@ impl Run {
         self.book.nodes.len() as u16
     }
 
-    /// By its share of a hundred: where the round has its nodes, few declarations.
-    pub fn pick_change(&mut self) -> Change {
-        let k = self.rng.below(100);
-        let declare = self.rng.one_in(16) | (self.count() < self.round.most);
-        match k {
-            0..12 if declare => Change::Variable,
-            12..50 if declare => Change::Functor,
-            0..90 => Change::Equate,
-            _ => Change::Withdraw,
-        }
+    /// Whether a node may be declared: where the round has its nodes, one time in 16.
+    pub fn declares(&mut self) -> bool {
+        self.rng.one_in(16) | (self.count() < self.round.most)
     }
 
     // A node that was declared.

@@ -4,31 +4,28 @@ ghost use Rattle.std.specs.Prelude.{◌≤◌, length};
 use arrayvec::ArrayVec;
 
 /// A symbol and its children, at most four.
-#[derive(Clone, Copy, PartialEq, Eq, Debug)]
+#[derive(PartialEq, Eq, Debug, Drop)]
 pub struct Functor {
     pub symbol: u16,
-    children: [u16; 4],
-    arity: usize,
-    ghost few: { arity ≤ 4 },
+    children: ArrayVec<u16, 4>,
 }
 
 impl Functor {
     pub fn new(symbol: u16, children: &[u16]) -> Functor
         requires { length children.now ≤ 4 }
     {
-        let mut four = [0; 4];
-        four[..children.len()].copy_from_slice(children);
+        let mut four = ArrayVec::new();
+        let _ = four.try_extend_from_slice(children);
         Functor {
             symbol,
             children: four,
-            arity: children.len(),
         }
     }
 
     pub fn children(&self) -> &[u16]
         ensures { length result.now ≤ 4 }
     {
-        &self.children[..self.arity]
+        self.children.as_slice()
     }
 
     /// The child at a place from 1 on.
@@ -38,7 +35,7 @@ impl Functor {
     }
 }
 
-#[derive(Clone, Copy, PartialEq, Eq, Debug, Default)]
+#[derive(PartialEq, Eq, Debug, Default, Drop)]
 pub enum Node {
     #[default]
     Variable,
@@ -46,10 +43,10 @@ pub enum Node {
 }
 
 impl Node {
-    pub fn functor(&self) -> Option<Functor> {
+    pub fn functor(&self) -> Option<&Functor> {
         match self {
             Node::Variable => None,
-            Node::Functor(f) => Some(*f),
+            Node::Functor(f) => Some(f),
         }
     }
 }
@@ -114,7 +111,7 @@ impl Book {
     }
 
     /// The symbol and children of a functor node.
-    pub fn functor(&self, u: u16) -> Option<Functor> {
+    pub fn functor(&self, u: u16) -> Option<&Functor> {
         self.nodes.as_slice().get(usize::from(u))?.functor()
     }
 

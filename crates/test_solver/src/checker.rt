@@ -17,6 +17,7 @@ pub struct Claim {
     pub end: u16,
 }
 
+// Two makers: one that is handed the relation would say no more than the struct's own literal.
 impl Claim {
     pub fn same(start: u16, end: u16) -> Claim {
         Claim {

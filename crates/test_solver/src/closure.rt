@@ -104,10 +104,12 @@ impl Closure {
         }
     }
 
+    // Passes until one changes nothing. The count is no limit: `while` would want a proof that passes end, for which each function above
+    // would have to promise that it only adds to the sets.
     fn saturate(&mut self, nodes: &[Node])
         requires { length nodes.now ≤ 64 }
     {
-        for _ in 0..4096 {
+        for _ in 0..u64::MAX {
             let before = *self;
             self.pass_all(nodes);
             if *self == before {

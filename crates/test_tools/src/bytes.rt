@@ -4,5 +4,5 @@ pub const FILLER: u8 = 165;
 
 /// Whether no byte was written.
 pub fn untouched(s: &[u8]) -> bool {
-    s.iter().fold(true, |ok, b| ok & (*b == FILLER))
+    s.iter().all(|b| *b == FILLER)
 }

@@ -4,7 +4,8 @@ use test_solver::book::Equation;
 use test_solver::checker::{Claim, Fault, Goal, Relation};
 use unifier::{Figures, GoalAsked, Offer, Outcome, Standing, Workspace};
 
-/// What a call replies, without the proof.
+/// What a call replies, without the proof. `Refused` is one of the list and not the `Err` of a `Result`: a clash and a cycle refuse too, but with
+/// a proof, and are other replies here; and what is this type's own below, `number`, `goal` and `From`, would be functions beside std's type.
 #[derive(Clone, Copy, PartialEq, Eq, Debug)]
 pub enum Reply {
     Node(u8),
@@ -134,6 +135,7 @@ fn classed(f: Figures) -> (Reply, usize) {
     (reply, 0)
 }
 
+// No `From` here and below: neither type is this crate's.
 pub fn offer(e: Option<Equation>) -> Option<Offer> {
     e.map(|e| Offer {
         name: e.name,

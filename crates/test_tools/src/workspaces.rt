@@ -29,6 +29,7 @@ fn byte(u: u16) -> u8 {
     (u & 0xff) as u8
 }
 
+// No `From` here and below: neither type is this crate's.
 fn terms_of(nodes: &[Node]) -> Terms
     requires { length nodes.now ≤ 64 }
 {
@@ -77,23 +78,8 @@ pub fn of(book: &Book) -> Workspace {
     }
 }
 
-fn equal_terms(a: &Terms, b: &Terms) -> bool {
-    a.count == b.count
-        && a.kind == b.kind
-        && a.symbol == b.symbol
-        && a.arity == b.arity
-        && a.child == b.child
-}
-
-fn equal_equations(a: &Equations, b: &Equations) -> bool {
-    a.count == b.count && a.name == b.name && a.left == b.left && a.right == b.right
-}
-
-/// Whether two workspaces agree in every place, unused ones too.
-pub fn equal(a: &Workspace, b: &Workspace) -> bool {
-    equal_terms(&a.terms, &b.terms) && equal_equations(&a.equations, &b.equations)
-}
-
+/// Whether a workspace is its book's in every place, unused ones too. The equality is derived: it goes over both counts and each place of each
+/// array, and the library has none of its own that could leave one out.
 pub fn agrees(w: &Workspace, book: &Book) -> bool {
-    equal(w, &of(book))
+    *w == of(book)
 }

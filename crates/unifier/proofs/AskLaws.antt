@@ -1,34 +1,26 @@
--- Compare, class and check, which leave the workspace: a law for each way out.
+-- Compare and class, which leave the workspace: a law for each way out.
 use mathlib.Core.Path.{◌≡◌, refl}
 use mathlib.Core.List.{List}
-use mathlib.Core.Option.{Option, none, some}
+use mathlib.Core.Option.{none, some}
 use Prim.Native.Nat.{ℕ, ◌≤◌, ◌<◌}
 use lib.ListN.{length}
 use borrow.Author.Tests.{lt-ltb, le-ltb}
-use Rattle.std.specs.Prelude.{Result, Ok, Err}
-use Rattle.graph.specs.State.{Equation}
-use Rattle.graph.specs.Goals.{Goal}
+use Rattle.std.specs.Prelude.{Ok, Err}
 use Rattle.refusals.specs.Numbers.{numbered}
-use Rattle.refusals.specs.declared.Refusal.{Refusal}
 use Rattle.refusals.specs.declared.Refusal.TheVariants as refusal
 use Rattle.solve_classes.specs.Members.{ClassOf}
 use Rattle.solve_classes.specs.declared.Figures.{Figures}
 use Rattle.store.proofs.ViewLaws.{nodes_length}
-use Rattle.proof_check.specs.Answers.{judged_as}
 use Rattle.unifier_respond.specs.declared.Standing.{Standing}
 use Rattle.unifier.specs.Views.{state_of, Valid}
 use Rattle.unifier.specs.Replies.{outcome}
 use Rattle.unifier.specs.Compare.{refusal_of, Stands, Compares}
 use Rattle.unifier.specs.Class.{Classifies}
-use Rattle.unifier.specs.Check.{check_reply, Checks}
 use Rattle.unifier.specs.declared.Workspace.{Workspace}
 
 -- ---- compare
 
 module _ (w : Workspace) (u v : ℕ) (before : List ℕ) where
-  pub compare_no_workspace : (k : Refusal) → k ≡ refusal.NotAWorkspace → (Valid w → ⊥) → Compares w u v before before (outcome (Err k) w)
-  compare_no_workspace k e bad = record { refuses = λ _. (rw e, refl); replies = λ ok. absurd (bad ok); workspace = refl }
-
   pub compare_refused : Valid w → (k : ℕ) → refusal_of (state_of w) u v (length before) ≡ some k → Compares w u v before before (outcome (Err (numbered k)) w)
   compare_refused ok k e = record { refuses = λ bad. absurd (bad ok); replies = λ _. rw e (refl, refl); workspace = refl }
 
@@ -39,20 +31,8 @@ module _ (w : Workspace) (u v : ℕ) (before : List ℕ) where
 -- ---- class
 
 module _ (w : Workspace) (u : ℕ) where
-  pub class_no_workspace : (k : Refusal) → k ≡ refusal.NotAWorkspace → (Valid w → ⊥) → Classifies w u (outcome (Err k) w)
-  class_no_workspace k e bad = record { refuses = λ _. rw e; replies = λ ok. absurd (bad ok); workspace = refl }
-
   pub class_unknown : Valid w → w.terms.count ≤ u → Classifies w u (outcome (Err refusal.UnknownNode) w)
   class_unknown ok h = record { refuses = λ bad. absurd (bad ok); replies = λ _. rw (nodes_length w.terms, le-ltb u w.terms.count h) refl; workspace = refl }
 
   pub class_told : Valid w → u < w.terms.count → (k : Figures) → ClassOf (state_of w) u k.number k.size → Classifies w u (outcome (Ok k) w)
   class_told ok h k c = record { refuses = λ bad. absurd (bad ok); replies = λ _. rw (nodes_length w.terms, lt-ltb u w.terms.count h) c; workspace = refl }
-
--- ---- check
-
-module _ (w : Workspace) (o : Option Equation) (g : Goal) (bytes : List ℕ) where
-  pub check_no_workspace : (k : Refusal) → k ≡ refusal.NotAWorkspace → (Valid w → ⊥) → Checks w o g bytes (outcome (Err k) w)
-  check_no_workspace k e bad = record { refuses = λ _. rw e refl; replies = λ ok. absurd (bad ok); workspace = refl }
-
-  pub check_replied : Valid w → (r : Result (Unit {0}) Refusal) → judged_as r ≡ check_reply (state_of w) o g bytes → Checks w o g bytes (outcome r w)
-  check_replied ok r e = record { refuses = λ bad. absurd (bad ok); replies = λ _. e; workspace = refl }

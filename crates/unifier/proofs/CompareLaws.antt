@@ -1,8 +1,13 @@
 -- Compare past its refusals: what the search asks, and the reply to each case.
 use mathlib.Core.List.{List}
-use Prim.Native.Nat.{ℕ, ◌≤◌, ◌<◌}
+use Prim.Native.Nat.{ℕ, ◌≤◌}
+use mathlib.Core.Path.{◌≡◌}
+use mathlib.Core.Bool.{true, false}
 use lib.ListN.{length}
-use borrow.Author.Tests.{lt-ltb, le-ltb}
+use lib.Dec.{ltb}
+use Rattle.std.proofs.lemmas.Bool.{and_parts}
+use Rattle.proof_rules.specs.Rules.{both_below}
+use borrow.Author.Tests.{ltb-true, le-ltb}
 use Rattle.store.proofs.ViewLaws.{nodes_length, shape_proper}
 use Rattle.unifier_respond.specs.Stands as respond
 use Rattle.unifier_respond.specs.declared.Standing.{Standing}
@@ -17,21 +22,15 @@ use Rattle.unifier.specs.Compare.{Stands, same, below, above, apart, Compares}
 use Rattle.unifier.specs.declared.Workspace.{Workspace}
 use Rattle.unifier.proofs.AskLaws.{compare_refused, compare_stands}
 
--- refusals 5 and 4, as numbers decide them
+-- refusal 4
 module _ (w : Workspace) (u v : ℕ) (before : List ℕ) (ok : Valid w) where
-  pub refused_short : length before < 65536 → Compares w u v before before (outcome (Err refusal.ShortBuffer) w)
-  refused_short h = compare_refused w u v before ok 5 (rw (lt-ltb (length before) 65536 h))
+  pub refused_unknown : 65536 ≤ length before → both_below w.terms.count u v ≡ false → Compares w u v before before (outcome (Err refusal.UnknownNode) w)
+  refused_unknown long h = compare_refused w u v before ok 4 (rw (le-ltb (length before) 65536 long, nodes_length w.terms, h))
 
-  module _ (long : 65536 ≤ length before) where
-    pub refused_left : w.terms.count ≤ u → Compares w u v before before (outcome (Err refusal.UnknownNode) w)
-    refused_left h = compare_refused w u v before ok 4 (rw (le-ltb (length before) 65536 long, nodes_length w.terms, le-ltb u w.terms.count h))
+module _ (w : Workspace) (u v : ℕ) (before table : List ℕ) (trace : List Entry) (c : Solved w.terms w.equations table trace) (k : both_below w.terms.count u v ≡ true) where
+  ends : (ltb u w.terms.count ≡ true) × (ltb v w.terms.count ≡ true)
+  ends = and_parts _ _ k
 
-    pub refused_right : u < w.terms.count → w.terms.count ≤ v → Compares w u v before before (outcome (Err refusal.UnknownNode) w)
-    refused_right l h =
-        compare_refused w u v before ok 4
-        (rw (le-ltb (length before) 65536 long, nodes_length w.terms, lt-ltb u w.terms.count l, le-ltb v w.terms.count h))
-
-module _ (w : Workspace) (u v : ℕ) (before table : List ℕ) (trace : List Entry) (c : Solved w.terms w.equations table trace) (left : u < w.terms.count) (right : v < w.terms.count) where
   pub known : respond.Known w.terms w.equations u v table trace
   known = record {
     shape = c.shape;
@@ -41,14 +40,14 @@ module _ (w : Workspace) (u v : ℕ) (before table : List ℕ) (trace : List Ent
       traced = c.traced;
       exact = c.exact;
     };
-    left_known = left;
-    right_known = right;
+    left_known = ltb-true _ _ ends.0;
+    right_known = ltb-true _ _ ends.1;
   }
 
   pub told : 65536 ≤ length before → (after : List ℕ) (r : Standing) → respond.StandingProved (state_of w) u v before after r → Compares w u v before after (outcome (Ok r) w)
   told long after r a =
       compare_stands w u v before (record { shape = c.shape; solution = c.solution }) after r
-      (rw (le-ltb (length before) 65536 long, nodes_length w.terms, lt-ltb u w.terms.count left, lt-ltb v w.terms.count right))
+      (rw (le-ltb (length before) 65536 long, nodes_length w.terms, k))
       (go r a)
     where
       go : (r : Standing) → respond.StandingProved (state_of w) u v before after r → Stands (state_of w) u v before after r

@@ -11,7 +11,7 @@ use borrow.Author.Tests.{ltb-true, ltb-false, leb-false}
 use Rattle.graph.specs.State.{State, state_with, Equation, name_held, offered}
 use Rattle.graph.specs.Goals.{Goal, clash_goal, cycle_goal}
 use Rattle.graph.specs.Book as book
-use Rattle.base.proofs.BoolLaws.{and_left, and_right}
+use Rattle.std.proofs.lemmas.Bool.{and_parts}
 use Rattle.proof_lines.specs.Proof.{ProofIn}
 use Rattle.store.specs.Views.{nodes_of, state_from}
 use Rattle.store.specs.Shape.{EquationsShape, Shape}
@@ -30,12 +30,12 @@ use Rattle.std.specs.Prelude.{Result, Ok, Err}
 use Rattle.refusals.specs.declared.Refusal.{Refusal}
 use Rattle.refusals.specs.declared.Refusal.TheVariants as refusal
 use Rattle.solve_trace.specs.declared.Entry.{Entry}
-use Rattle.unifier.specs.Views.{workspace_of, state_of, Valid}
+use Rattle.unifier.specs.Views.{state_of, Valid}
 use Rattle.unifier.specs.Replies.{outcome}
 use Rattle.unifier.specs.Equate.{Equates}
-use Rattle.unifier.specs.Inner.{Early, Offering, Refuted, PlaceFor, Settles}
+use Rattle.unifier.specs.Inner.{Examining, Early, Offering, PlaceFor, Refuted, Settles}
 use Rattle.unifier.specs.declared.Workspace.{Workspace}
-use Rattle.unifier.proofs.Laws.{equate_early, equate_clash, equate_cycle, equate_held}
+use Rattle.unifier.proofs.Laws.{examined_well, early_past, equate_early, equate_clash, equate_cycle, equate_held}
 
 -- a refusal leaves the workspace
 pub settles_refused : (w : Workspace) (e : Equation) (before after : List ℕ) (k : Refusal) → Equates w e before after (outcome (Err k) w) → Settles w e before after (Err k)
@@ -47,22 +47,10 @@ pub settles_early : (w : Workspace) (e : Equation) (before : List ℕ) → Valid
 settles_early w e before v r q {k} h x y = rw y (settles_refused w e before before k (equate_early w e before v k (rw h at x)))
 
 -- and back: what the reply settles is what equate promises
-module _ (w : Workspace) (e : Equation) (before after : List ℕ) (r : Result (Unit {0}) Refusal) where
-  pub settled_refused : (k : Refusal) → r ≡ Err k → Settles w e before after r → Equates w e before after (outcome (Err k) w)
-  settled_refused k h s = (rw h at s).equates
-
-  pub settled_held : r ≡ Ok tt → Settles w e before after r
-      → Equates w e before after (outcome (Ok tt) (workspace_of w.terms (with_equation w.equations e.name e.left e.right))) × PlaceFor w e
-  settled_held h s = let t = rw h at s in (t.equates, t.place)
-
 -- none of the four tests refuses
 tests : (x y z t : Bool) → ◌≡◌ {A = Option ℕ} (cond x (some 5) (cond y (cond z (some 6) (cond t (some 7) none)) (some 4))) none
     → (x ≡ false) × ((y ≡ true) × ((z ≡ false) × (t ≡ false)))
-tests true y z t h = absurd (let q : ◌≡◌ {A = ℕ} 0 1 = cc in omega arith)
-tests false false z t h = absurd (let q : ◌≡◌ {A = ℕ} 0 1 = cc in omega arith)
-tests false true true t h = absurd (let q : ◌≡◌ {A = ℕ} 0 1 = cc in omega arith)
-tests false true false true h = absurd (let q : ◌≡◌ {A = ℕ} 0 1 = cc in omega arith)
-tests false true false false h = (refl, (refl, (refl, refl)))
+tests x y z t h = grind arith
 
 module _ (w : Workspace) (e : Equation) (before : List ℕ) (past : book.early (state_of w) (book.equate e (length before)) ≡ none) where
   none_refuses : (ltb (length before) 65536 ≡ false) × ((ltb e.left (length (state_of w).nodes) && ltb e.right (length (state_of w).nodes) ≡ true)
@@ -73,12 +61,12 @@ module _ (w : Workspace) (e : Equation) (before : List ℕ) (past : book.early (
 
   pub known_left : e.left < w.terms.count
   known_left =
-      let l : e.left < length (nodes_of w.terms) = ltb-true e.left (length (nodes_of w.terms)) (and_left (ltb e.left (length (nodes_of w.terms))) (ltb e.right (length (nodes_of w.terms))) none_refuses.1.0) in
+      let l : e.left < length (nodes_of w.terms) = ltb-true e.left (length (nodes_of w.terms)) (and_parts _ _ none_refuses.1.0).0 in
       rw (nodes_length w.terms) at l
 
   pub known_right : e.right < w.terms.count
   known_right =
-      let l : e.right < length (nodes_of w.terms) = ltb-true e.right (length (nodes_of w.terms)) (and_right (ltb e.left (length (nodes_of w.terms))) (ltb e.right (length (nodes_of w.terms))) none_refuses.1.0) in
+      let l : e.right < length (nodes_of w.terms) = ltb-true e.right (length (nodes_of w.terms)) (and_parts _ _ none_refuses.1.0).1 in
       rw (nodes_length w.terms) at l
 
   pub equations_few : w.equations.count < 256
@@ -93,6 +81,11 @@ module _ (w : Workspace) (e : Equation) (before : List ℕ) (past : book.early (
 -- the arrays of well-shaped equations are full
 full : {n : ℕ} {q : Equations} → EquationsShape n q → Full q
 full s = record { names = s.name_size; lefts = s.left_size; rights = s.right_size }
+
+-- what the examination and the early refusals leave
+pub offering_now : (w : Workspace) (e : Equation) (room : ℕ) (trace : List Entry) (r : Result (List ℕ) Refusal) (table : List ℕ) (q : Result (Unit {0}) Refusal)
+    → r ≡ Ok table → Examining w trace r → q ≡ Ok tt → Early (book.early (state_of w) (book.equate e room)) q → Offering w e room table trace
+offering_now w e room trace r table q x s y p = record { solved = examined_well w trace r table x s; past = early_past _ q y p }
 
 module _ (w : Workspace) (e : Equation) (before table : List ℕ) (trace : List Entry) (o : Offering w e (length before) table trace) where
   offering_left : e.left < w.terms.count
@@ -130,17 +123,30 @@ module _ (w : Workspace) (e : Equation) (before table : List ℕ) (trace : List 
 -- ---- the verdict as a reply
 
 module _ (w : Workspace) (e : Equation) (before : List ℕ) (o : SolveResult) (trace : List Entry) (f : Refuted w e (length before) o trace) where
+  refuted_place : PlaceFor w e
+  refuted_place = record {
+    shape = f.valid.shape;
+    few = equations_few w e before f.past;
+    left_known = known_left w e before f.past;
+    right_known = known_right w e before f.past;
+  }
+
+  -- what putting it at the end asks
+  pub refuted_ends : (w.equations.count < 256) × ((e.left < 64) × (e.right < 64))
+  refuted_ends =
+      let t = refuted_place in
+      let n : w.terms.count ≤ 64 = t.shape.terms.few in
+      (t.few, (omega (arith, t.left_known), omega (arith, t.right_known)))
+
   pub settles_held : o.verdict ≡ finding.Solved → Settles w e before before (Ok tt)
   settles_held q =
-      let s = f.valid.shape in
-      let few = equations_few w e before f.past in
-      let l = known_left w e before f.past in
-      let r = known_right w e before f.past in
-      let p = puts_equation w.equations e.name e.left e.right (full s.equations) few in
+      let t = refuted_place in
+      let s = t.shape.equations in
+      let p = puts_equation w.equations e.name e.left e.right (full s) t.few in
       record {
         equates = equate_held w e before f.valid f.past (with_equation w.equations e.name e.left e.right) p.held
-            (p.shape w.terms.count s.equations l r (name_new w e before f.past)) (rw q at f.decided.verdict) ((solved_just f.decided).0 (rw q refl));
-        place = record { shape = s; few = few; left_known = l; right_known = r };
+            (p.shape w.terms.count s t.left_known t.right_known (name_new w e before f.past)) (rw q at f.decided.verdict) ((solved_just f.decided).0 (rw q refl));
+        place = t;
       }
 
 -- ---- refusals 8 and 9: d is the held equations with e at their end

@@ -16,8 +16,9 @@ use Rattle.graph.specs.Book as book
 use Rattle.graph.proofs.AcceptLaws.{declare_accepted}
 use Rattle.graph.proofs.SolutionKeptLaws.{solution_declared, solution_removed}
 use Rattle.proof_lines.specs.Proof.{ProofIn}
+use Rattle.proof_rules.specs.Rules.{both_below}
 use Rattle.store.specs.Views.{nodes_of, equations_of}
-use Rattle.store.specs.Shape.{TermsShape, EquationsShape, Shape}
+use Rattle.store.specs.Shape.{TermsShape, EquationsShape}
 use Rattle.store.proofs.ViewLaws.{nodes_length, equations_length, shape_proper}
 use Rattle.store.specs.declared.Terms.{Terms}
 use Rattle.store.specs.declared.Equations.{Equations}
@@ -51,12 +52,6 @@ solved_classed w table trace s = record { valid = solved_valid w table trace s; 
 -- by the reply of the examination
 pub examined_well : (w : Workspace) (trace : List Entry) (r : Result (List ℕ) Refusal) (table : List ℕ) → r ≡ Ok table → Examining w trace r → Solved w.terms w.equations table trace
 examined_well w trace r table e x = rw e at x
-
-pub examined_away : (w : Workspace) (trace : List Entry) (r : Result (List ℕ) Refusal) (k : Refusal) → r ≡ Err k → Examining w trace r → (k ≡ refusal.NotAWorkspace) × (Valid w → ⊥)
-examined_away w trace r k e x = rw e at x
-
-pub not_valid : (w : Workspace) → (Shape w.terms w.equations → Solution (state_of w) → ⊥) → Valid w → ⊥
-not_valid w bad v = bad v.shape v.solution
 
 -- by the reply of the early refusals
 pub early_past : (o : Option ℕ) (r : Result (Unit {0}) Refusal) → r ≡ Ok tt → Early o r → o ≡ none
@@ -173,9 +168,6 @@ module _ (w : Workspace) (e : Equation) (before : List ℕ) where
   equate_refused : (k : Refusal) → brings k ≡ nothing → refusal_number k < 8 → Answers is_held w (book.equate e (length before)) (outcome (Err k) w) → Equates w e before before (outcome (Err k) w)
   equate_refused k b h a = record { answers = a; written = rw b (refl, h) }
 
-  pub equate_no_workspace : (k : Refusal) → k ≡ refusal.NotAWorkspace → (Valid w → ⊥) → Equates w e before before (outcome (Err k) w)
-  equate_no_workspace k q bad = equate_refused k (rw q refl) (rw q (omega arith)) (no_workspace is_held w (book.equate e (length before)) k q bad)
-
   pub equate_early : Valid w → (k : Refusal) → Early (book.early (state_of w) (book.equate e (length before))) (Err k) → Equates w e before before (outcome (Err k) w)
   equate_early v k h = equate_refused k h.1.0 h.1.1 (early_refused is_held w (book.equate e (length before)) v k h.0)
 
@@ -205,23 +197,16 @@ module _ (w : Workspace) (e : Equation) (room : ℕ) where
   abbrev decided : Option ℕ
   decided = book.early (state_of w) (book.equate e room)
 
-  pub early_short : room < 65536 → Early decided (Err refusal.ShortBuffer)
-  early_short h = (rw (lt-ltb room 65536 h), (refl, omega arith))
-
   module _ (long : 65536 ≤ room) where
-    pub early_left : w.terms.count ≤ e.left → Early decided (Err refusal.UnknownNode)
-    early_left h = (rw (le-ltb room 65536 long, nodes_length w.terms, le-ltb _ _ h), (refl, omega arith))
+    pub early_unknown : both_below w.terms.count e.left e.right ≡ false → Early decided (Err refusal.UnknownNode)
+    early_unknown h = (rw (le-ltb room 65536 long, nodes_length w.terms, h), (refl, omega arith))
 
-    pub early_right : e.left < w.terms.count → w.terms.count ≤ e.right → Early decided (Err refusal.UnknownNode)
-    early_right l h = (rw (le-ltb room 65536 long, nodes_length w.terms, lt-ltb _ _ l, le-ltb _ _ h), (refl, omega arith))
-
-    module _ (l : e.left < w.terms.count) (r : e.right < w.terms.count) where
+    module _ (k : both_below w.terms.count e.left e.right ≡ true) where
       pub early_name : name_held e.name (equations_of w.equations) ≡ true → Early decided (Err refusal.NameHeld)
-      early_name h = (rw (le-ltb room 65536 long, nodes_length w.terms, lt-ltb _ _ l, lt-ltb _ _ r, h), (refl, omega arith))
+      early_name h = (rw (le-ltb room 65536 long, nodes_length w.terms, k, h), (refl, omega arith))
 
       pub early_full : name_held e.name (equations_of w.equations) ≡ false → 256 ≤ w.equations.count → Early decided (Err refusal.EquationsFull)
-      early_full h f =
-          (rw (le-ltb room 65536 long, nodes_length w.terms, lt-ltb _ _ l, lt-ltb _ _ r, h, equations_length w.equations, le-leb 256 w.equations.count f), (refl, omega arith))
+      early_full h f = (rw (le-ltb room 65536 long, nodes_length w.terms, k, h, equations_length w.equations, le-leb 256 w.equations.count f), (refl, omega arith))
 
       pub early_none : name_held e.name (equations_of w.equations) ≡ false → w.equations.count < 256 → Early decided (Ok tt)
-      early_none h f = rw (le-ltb room 65536 long, nodes_length w.terms, lt-ltb _ _ l, lt-ltb _ _ r, h, equations_length w.equations, lt-leb 256 w.equations.count f)
+      early_none h f = rw (le-ltb room 65536 long, nodes_length w.terms, k, h, equations_length w.equations, lt-leb 256 w.equations.count f)

@@ -2,10 +2,11 @@
 use mathlib.Core.Path.{◌≡◌, refl, sym, ap, ap₂, ◌∙◌, subst}
 use mathlib.Core.List.{List}
 use mathlib.Core.Option.{some}
-use Prim.Native.Nat.{ℕ, zero, suc, ◌≤◌, ◌<◌}
+use Prim.Native.Nat.{ℕ, ◌≤◌, ◌<◌}
 use native.Mathlib.Nat.{not-suc-le-zero}
 use native.Mathlib.Omega.{arith}
 use lib.ListN.{length, get_or, get_elem?, replicate, length-replicate}
+use Rattle.std.proofs.lemmas.Grind.{common_steps}
 use Rattle.graph.specs.State.{Node, functor, Equation, State, state_with, empty_state}
 use Rattle.graph.specs.Solution.{Solution}
 use Rattle.base.specs.Tab.{tab}
@@ -94,9 +95,7 @@ abbrev zeros : ℕ → List ℕ
 zeros n = replicate n 0
 
 zeros_at : (n i : ℕ) → ◌≡◌ {A = ℕ} (get_or (zeros n) i 0) 0
-zeros_at zero i = refl
-zeros_at (suc n) zero = refl
-zeros_at (suc n) (suc i) = zeros_at n i
+zeros_at n i = grind (arith, common_steps)
 
 zeros_size : (n : ℕ) → length (zeros n) ≡ n
 zeros_size n = length-replicate n 0

@@ -1,6 +1,7 @@
 -- What the calls' inner functions ask of each other.
 --   Examining  what every call begins with: the class table of a workspace and its trace, or refusal 1
 --   Classed    a workspace and the class table of its closure
+--   equation_in   the equation that an offer offers
 --   Early      the first refusal that the two lists decide, where they decide one: it brings nothing
 --   Offering   a solved workspace, and an equation that none of 5, 4, 6 and 7 refuses
 --   Refuted    such a one, and the verdict on held and offered equations together
@@ -9,7 +10,7 @@
 use Rattle.std.specs.Prelude.{◌≡◌, List, ℕ, ◌<◌, true, Result, Ok, Err}
 use Rattle.std.proofs.Math.Option.{Option, none, some}
 use Rattle.graph.specs.Limits.{equation_limit}
-use Rattle.graph.specs.State.{Equation, offered, with_offer}
+use Rattle.graph.specs.State.{Equation, equation_of, offered, with_offer}
 use Rattle.graph.specs.Goals.{Goal}
 use Rattle.graph.specs.Book as book
 use Rattle.solve_classes.specs.Table.{Table}
@@ -19,6 +20,7 @@ use Rattle.solve_trace.specs.declared.Entry.{Entry}
 use Rattle.solve.specs.Decided.{LeftOver, Decided}
 use Rattle.solve.specs.declared.SolveResult.{SolveResult}
 use Rattle.proof_rules.specs.Rules.{offer_below}
+use Rattle.proof_rules.specs.declared.Offer.{Offer}
 use Rattle.proof_check.specs.Answers.{judged_as, answer_to}
 use Rattle.refusals.specs.Numbers.{refusal_number, nothing, brings}
 use Rattle.refusals.specs.declared.Refusal.{Refusal}
@@ -42,6 +44,9 @@ pub record Classed (w : Workspace) (t : List ℕ) : Type 0 where
   pub exact : Exact (state_of w) t
   -- nodes that aren't declared are alone
   pub alone : Alone w.terms.count t
+
+abbrev pub equation_in : Offer → Equation
+equation_in o = equation_of o.name o.left o.right
 
 abbrev pub Early : Option ℕ → Result (Unit {0}) Refusal → Type 0
 Early o (Ok u) = o ≡ none

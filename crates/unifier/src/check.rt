@@ -1,38 +1,27 @@
 // Check: refusals 1, 4 and 6, then the checker's own.
 ghost use Rattle.std.specs.Prelude.{◌≡◌, ◌≤◌};
 ghost use Rattle.graph.specs.Limits.{equation_limit};
-ghost use Rattle.proof_rules.specs.Rules.{offer_of, both_below, offer_below};
+ghost use Rattle.proof_rules.specs.Rules.{offer_of, offer_below};
 ghost use Rattle.proof_check.specs.Answers.{goal_of};
 ghost use Rattle.unifier.specs.Replies.{outcome};
 ghost use Rattle.unifier.specs.Check.{goal_below, Checks};
 ghost use Rattle.unifier.specs.Inner.{Questioned};
 
-use super::{GoalAsked, Offer, Outcome, Refusal, Workspace};
+use super::{GoalAsked, Offer, Outcome, Refusal, Workspace, both_below};
 use solve_trace::Trace;
-
-fn both_below(u: u16, v: u16, n: usize) -> bool
-    ensures { result ≡ both_below n u v }
-{
-    usize::from(u) < n && usize::from(v) < n
-}
 
 fn offer_below(offer: Option<Offer>, n: usize) -> bool
     ensures { result ≡ offer_below n (offer_of offer) }
 {
-    match offer {
-        None => true,
-        Some(o) => both_below(o.left, o.right, n),
-    }
+    offer.is_none_or(|o| both_below(o.left, o.right, n))
 }
 
 fn goal_below(goal: GoalAsked, n: usize) -> bool
     ensures { result ≡ goal_below n (goal_of goal) }
 {
     match goal {
-        GoalAsked::Clash => true,
-        GoalAsked::Cycle => true,
-        GoalAsked::Same(u, v) => both_below(u, v, n),
-        GoalAsked::Below(u, v) => both_below(u, v, n),
+        GoalAsked::Clash | GoalAsked::Cycle => true,
+        GoalAsked::Same(u, v) | GoalAsked::Below(u, v) => both_below(u, v, n),
     }
 }
 

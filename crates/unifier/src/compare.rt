@@ -2,7 +2,7 @@
 ghost use Rattle.unifier.specs.Replies.{outcome};
 ghost use Rattle.unifier.specs.Compare.{Compares};
 
-use super::{Outcome, Refusal, Standing, Workspace};
+use super::{Outcome, Refusal, Standing, Workspace, both_below};
 use graph::BUFFER;
 use solve_trace::Trace;
 
@@ -15,11 +15,7 @@ impl Workspace {
         if proof.len() < BUFFER {
             return Err(Refusal::ShortBuffer);
         }
-        let n = self.terms.count;
-        if n <= usize::from(u) {
-            return Err(Refusal::UnknownNode);
-        }
-        if n <= usize::from(v) {
+        if !both_below(u, v, self.terms.count) {
             return Err(Refusal::UnknownNode);
         }
         let (x, y) = (u as u8, v as u8);

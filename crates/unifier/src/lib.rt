@@ -6,6 +6,7 @@ ghost use Rattle.std.specs.Prelude.{Result, Ok, Err};
 ghost use Rattle.graph.specs.Limits.{equation_limit};
 ghost use Rattle.graph.specs.State.{variable, functor};
 ghost use Rattle.graph.specs.Book as book;
+ghost use Rattle.proof_rules.specs.Rules.{both_below};
 ghost use Rattle.unifier.specs.Views.{fresh_workspace};
 ghost use Rattle.unifier.specs.Replies.{outcome, node_number, is_gone};
 ghost use Rattle.unifier.specs.Answers.{Answers};
@@ -27,7 +28,7 @@ pub use unifier_respond::Standing; // what compare replies
 
 // The layout is C's, so that a host hands over the value as it is.
 #[repr(C)]
-#[derive(Clone, Copy)]
+#[derive(Clone, Copy, PartialEq, Eq, Debug)]
 pub struct Workspace {
     pub terms: Terms,
     pub equations: Equations,
@@ -38,6 +39,13 @@ pub struct Workspace {
 pub struct Outcome<T> {
     pub reply: Result<T, Refusal>,
     pub workspace: Workspace,
+}
+
+// Whether both are known, of `n` nodes.
+fn both_below(u: u16, v: u16, n: usize) -> bool
+    ensures { result ≡ both_below n u v }
+{
+    usize::from(u) < n && usize::from(v) < n
 }
 
 impl Workspace {
@@ -60,8 +68,8 @@ impl Workspace {
 
     // The class table of the held equations, with its trace, or that this is no workspace. So begins every call.
     fn examined(&self, trace: &mut Trace) -> Result<[u8; 64], Refusal>
-        requires { length trace.old ≡ 0 }
-        ensures { Examining self.now trace.new result }
+        requires { length trace.old.items ≡ 0 }
+        ensures { Examining self.now trace.new.items result }
     {
         unifier_examine::examine(trace, &self.terms, &self.equations).ok_or(Refusal::NotAWorkspace)
     }

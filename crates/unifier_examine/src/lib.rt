@@ -10,7 +10,7 @@ use store::{Equations, Terms};
 
 // The class table of the held equations, where terms and equations make a workspace; and the trace of its merges.
 pub fn examine(trace: &mut Trace, t: &Terms, e: &Equations) -> Option<[u8; 64]>
-    ensures { Examines t.now e.now trace.new result }
+    ensures { Examines t.now e.now trace.new.items result }
 {
     if !store_shape::shaped(t, e) {
         return None;

@@ -1,11 +1,12 @@
 -- From what the writer promises of lines to proofs of goals, where the arrays have the right shape.
 use mathlib.Core.Path.{refl}
 use mathlib.Core.List.{List}
-use Prim.Native.Nat.{ℕ, ◌≤◌, ◌<◌}
+use Prim.Native.Nat.{ℕ, ◌<◌}
 use native.Mathlib.Omega.{arith}
-use lib.ListN.{length}
-use Rattle.graph.specs.Limits.{node_limit, buffer_bytes}
+use Rattle.std.proofs.Common.{◌≡◌, Option, Some, None}
+use Rattle.std.specs.Option.{IsSome}
 use Rattle.graph.specs.State.{State}
+use Rattle.graph.specs.Closure.{Cycle}
 use Rattle.graph.specs.Lines.{same, below}
 use Rattle.graph.specs.Goals.{clash_goal, cycle_goal, same_goal, below_goal}
 use Rattle.store.specs.declared.Terms.{Terms}
@@ -14,19 +15,21 @@ use Rattle.store.specs.Views.{state_from}
 use Rattle.store.specs.Shape.{Shape}
 use Rattle.store.proofs.ViewLaws.{node_in}
 use Rattle.solve_classes.specs.Table.{Table}
+use Rattle.solve_classes.specs.Exact.{Exact}
+use Rattle.solve_trace.specs.Nodes.{Nodes}
 use Rattle.solve_trace.proofs.NodeLaws.{formed}
-use Rattle.solve_trace.specs.Trace.{Traced}
 use Rattle.solve_trace.proofs.TraceLaws.{traced_table}
 use Rattle.solve_trace.specs.declared.Entry.{Entry}
+use Rattle.solve_reach.specs.declared.Circle.{Circle}
 use Rattle.solve_reach.specs.declared.Search.{Search}
 use Rattle.solve_reach.specs.Reach.{Searched}
-use Rattle.solve_reach.specs.Search.{Reached}
+use Rattle.solve_reach.specs.Search.{Reached, LeadsBack, MayCircle}
 use Rattle.solve_reach.proofs.SearchLaws.{searched}
 use Rattle.solve.specs.Decided.{Clashes}
 use Rattle.proof_lines.specs.Proof.{ProofIn}
 use Rattle.write_runs.proofs.GoalLaws.{proof, shows_same, shows_below, shows_cycle, shows_clash}
 use Rattle.write_same.specs.Replay.{OneClass, Explained}
-use Rattle.write_same.proofs.ShapeLaws.{shape_describes, shape_steps}
+use Rattle.write_same.proofs.ShapeLaws.{shape_describes}
 use Rattle.write_below.specs.Chain.{Lowered, Circled}
 use Rattle.unifier_respond.specs.Shows.{Shows, TracedClosure}
 
@@ -45,11 +48,6 @@ module _ (s : State) {n : ℕ} {before after : List ℕ} where
 -- ---- the writer's lines
 
 module _ (g : Terms) (q : Equations) (S : Shape g q) where
-  -- what the writer asks of the arrays and the trace
-  pub writer_room : {es : List Entry} {t : List ℕ} (buf : List ℕ) → Traced (state_from g q) es t → buffer_bytes ≤ length buf
-      → (g.count ≤ node_limit) × ((length es ≤ 63) × (buffer_bytes ≤ length buf))
-  writer_room buf T h = (S.terms.few, (shape_steps g q S T, h))
-
   module _ {es : List Entry} {t : List ℕ} (T : TracedClosure (state_from g q) es t) where
     pub closure_table : Table t
     closure_table = traced_table (state_from g q) (shape_describes g q S).ends.limited.proper T.traced
@@ -74,3 +72,13 @@ module _ (g : Terms) (q : Equations) (S : Shape g q) where
       shown_cycle L =
           let k = L.shown (state_from g q) (shape_describes g q S) T.traced (down T hu R).edges in
           proof (state_from g q) L.some_lines (omega (arith, L.high, S.terms.few)) L.kept k.1 cycle_goal (shows_cycle (state_from g q) L.node)
+
+-- ---- the cycle that was found
+
+module _ (g : Terms) {t : List ℕ} (s : State) (N : Nodes g s) (E : Exact s t) where
+  pub circle_there : (o : Option Circle) → MayCircle g t o → Cycle s → IsSome o
+  circle_there (Some c) M C = refl
+  circle_there None M C = absurd (M s N E C)
+
+pub circle_leads : {g : Terms} {t : List ℕ} {o : Option Circle} {c : Circle} → o ≡ Some c → MayCircle g t o → LeadsBack g t c.node c.search
+circle_leads q M = rw q at M

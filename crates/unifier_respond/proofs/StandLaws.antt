@@ -2,9 +2,7 @@
 use mathlib.Core.Path.{◌≡◌, refl, sym, ◌∙◌}
 use mathlib.Core.Bool.{Bool, true, false}
 use mathlib.Core.List.{List}
-use Prim.Native.Nat.{ℕ, ◌<◌}
-use native.Mathlib.Omega.{arith}
-use Rattle.base.proofs.AbsurdLaws.{true_is_false}
+use Prim.Native.Nat.{ℕ}
 use Rattle.graph.specs.Closure.{Same, Below}
 use Rattle.graph.specs.Goals.{same_goal, below_goal}
 use Rattle.proof_lines.specs.Proof.{ProofIn}
@@ -12,10 +10,7 @@ use Rattle.store.specs.Views.{state_from}
 use Rattle.store.specs.declared.Terms.{Terms}
 use Rattle.store.specs.declared.Equations.{Equations}
 use Rattle.store.proofs.ViewLaws.{node_in}
-use Rattle.solve_classes.specs.Table.{class, Table}
-use Rattle.solve_classes.proofs.TableLaws.{class_small}
-use Rattle.solve_trace.specs.Nodes.{Formed}
-use Rattle.solve_trace.proofs.NodeLaws.{formed}
+use Rattle.solve_classes.specs.Table.{class}
 use Rattle.solve_trace.specs.declared.Entry.{Entry}
 use Rattle.solve_reach.specs.declared.Search.{Search}
 use Rattle.solve_reach.specs.Reach.{Reaches, Searched}
@@ -31,21 +26,9 @@ pub told : {b r : Bool} → r ≡ b → r ≡ true → b ≡ true
 told e h = sym e ∙ h
 
 pub told_not : {b r : Bool} → r ≡ b → r ≡ false → b ≡ true → ⊥
-told_not e h k = true_is_false (sym k ∙ sym e ∙ h)
+told_not e h k = cc
 
 module _ (t : Terms) (e : Equations) (u v : ℕ) (table : List ℕ) (es : List Entry) (k : Known t e u v table es) where
-  pub all_formed : Formed t
-  all_formed = formed t k.shape.terms
-
-  pub a_table : Table table
-  a_table = k.going.ready.table
-
-  pub left_class : class table u < 64
-  left_class = class_small a_table u (omega (arith, k.left_known, k.shape.terms.few))
-
-  pub right_class : class table v < 64
-  right_class = class_small a_table v (omega (arith, k.right_known, k.shape.terms.few))
-
   pub closed_table : TracedClosure (state_from t e) es table
   closed_table = record { traced = k.going.traced; exact = k.going.exact }
 

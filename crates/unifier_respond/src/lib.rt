@@ -18,8 +18,9 @@ ghost use Rattle.unifier_respond.specs.Stands.{Known, StandingProved};
 
 use solve_heights::Heights;
 use solve_reach::Search;
-use solve_trace::Trace;
+use solve_trace::Entry;
 use store::{Equations, Terms};
+use write_same::Grounds;
 
 // How two nodes stand, with the number of lines.
 #[derive(Clone, Copy, PartialEq, Eq, Debug)]
@@ -30,15 +31,19 @@ pub enum Standing {
     Apart,
 }
 
-// Lines for all that same(u, v) shows, where the trace joins u and v. Gives their number, as the two below.
-pub fn show_same(buf: &mut [u8], t: &Terms, e: &Equations, trace: &Trace, u: u8, v: u8) -> usize
+// Lines for all that same(u, v) shows, where the trace joins u and v. Gives their number, as the two below. A lent buffer is the caller's
+// memory, of any length from 65,536 bytes on, so its length is asked in contracts from here down to the pen: an array would be of just one length.
+// Nodes, equations, table and trace come one by one: the nodes are a workspace's, the equations its own or those with the offered one, the table
+// goes by value, the trace is the solver's; `Grounds` is made of three of them here.
+pub fn show_same(buf: &mut [u8], t: &Terms, e: &Equations, trace: &[Entry], u: u8, v: u8) -> usize
     requires shape { Shape t.now e.now }
     requires proof_room { buffer_bytes ≤ length buf.old }
     requires u_lt_count { (u < t.now.count) × (v < t.now.count) }
     requires one_class { OneClass (state_from t.now e.now) trace.now u v }
     ensures { Shows (state_from t.now e.now) (same u v) result buf.old buf.new }
 {
-    write_same::explain_same(buf, t, e, trace, u, v)
+    let grounds = Grounds { t, e, trace };
+    write_same::explain_same(buf, &grounds, u, v)
 }
 
 // Lines for all that below(u, v) shows, where the search from u reached v's class.
@@ -47,7 +52,7 @@ fn show_below(
     t: &Terms,
     e: &Equations,
     table: [u8; 64],
-    trace: &Trace,
+    trace: &[Entry],
     search: &Search,
     u: u8,
     v: u8,
@@ -59,7 +64,8 @@ fn show_below(
     requires reached { Reached t.now table search.now u × Reaches table search.now v }
     ensures { Shows (state_from t.now e.now) (below u v) result buf.old buf.new }
 {
-    write_below::explain_below(buf, t, e, trace, table, search, u, v)
+    let grounds = Grounds { t, e, trace };
+    write_below::explain_below(buf, &grounds, table, search, u, v)
 }
 
 // A proof of a cycle, where the peel left something.
@@ -69,7 +75,7 @@ pub fn show_cycle(
     e: &Equations,
     table: [u8; 64],
     heights: &Heights,
-    trace: &Trace,
+    trace: &[Entry],
 ) -> usize
     requires shape { Shape t.now e.now }
     requires proof_room { buffer_bytes ≤ length buf.old }
@@ -78,8 +84,9 @@ pub fn show_cycle(
     requires cycle { Cycle (state_from t.now e.now) }
     ensures { ProofIn (state_from t.now e.now) cycle_goal result buf.old buf.new }
 {
-    let circle = solve_reach::find_cycle(table, heights, t);
-    write_below::explain_cycle(buf, t, e, trace, table, &circle.search, circle.node)
+    let circle = solve_reach::find_cycle(table, heights, t).unwrap();
+    let grounds = Grounds { t, e, trace };
+    write_below::explain_cycle(buf, &grounds, table, &circle.search, circle.node)
 }
 
 // How `u` and `v` stand, in the closure of the equations that made the table and its trace.
@@ -88,7 +95,7 @@ pub fn stand(
     t: &Terms,
     e: &Equations,
     table: [u8; 64],
-    trace: &Trace,
+    trace: &[Entry],
     u: u8,
     v: u8,
 ) -> Standing
@@ -96,8 +103,8 @@ pub fn stand(
     requires buffer_bytes_in_bounds { buffer_bytes ≤ length buf.old }
     ensures { StandingProved (state_from t.now e.now) u v buf.old buf.new result }
 {
-    let a = table[u as usize] as usize;
-    let b = table[v as usize] as usize;
+    let a = usize::from(table[usize::from(u)]);
+    let b = usize::from(table[usize::from(v)]);
     if a == b {
         let lines = show_same(buf, t, e, trace, u, v);
         return Standing::Same(lines as u16);

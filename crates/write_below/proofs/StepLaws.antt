@@ -118,9 +118,6 @@ module _ {t : List ℕ} {r : Search} {u v : ℕ} (T : Table t) (W : Ways t r u) 
 -- ---- a way that leads back, from the node at which it begins
 
 module _ {t : List ℕ} {r : Search} {u p : ℕ} (B : Top t r u p) where
-  pub top_small : Ways t r u → p < 64
-  top_small W = rw B.leads at (W.parents B.d B.down B.small B.reached)
-
   -- a search from u is one from each node of its class
   pub top_ways : Ways t r u → Ways t r p
   top_ways W =
@@ -131,6 +128,3 @@ module _ {t : List ℕ} {r : Search} {u p : ℕ} (B : Top t r u p) where
         top = W.top;
         onward = λ d x h e n. W.onward d x h e (λ z. n (z ∙ sym B.in_class_lem));
       }
-
-  pub top_back : Reaches t r u → Reaches t r p
-  top_back R = rw B.in_class_lem R

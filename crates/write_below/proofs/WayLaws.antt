@@ -1,5 +1,5 @@
 -- The lines of a way.
-use Rattle.std.proofs.Common.{◌≡◌, ℕ, zero, suc, ◌-◌, ◌≤◌, ◌<◌, List, [], ◌∷◌, length, get_or, map, sym, ◌∙◌, ap, arith}
+use Rattle.std.proofs.Common.{◌≡◌, ℕ, zero, suc, ◌-◌, ◌<◌, List, [], ◌∷◌, length, get_or, map, sym, ◌∙◌, ap, arith}
 use Rattle.std.proofs.lemmas.List.{length-map}
 use lib.ListN.{get_or-map}
 use Rattle.std.specs.List.{All}
@@ -49,9 +49,9 @@ module _ {s : State} {t : List ℕ} {r : Search} (T : Table t) (E : Edges s t r)
       links c x.down.parent xs e.parent_known C.1 (λ j b m. N (suc j) b (omega arith)) (λ j b m. P (suc j) b (omega arith)) k d (omega arith)
 
 module _ {t : List ℕ} {r : Search} {u v : ℕ} {xs : List Rung} (T : Table t) (L : Leads t r u v xs) where
-  pub lowered : {g : Terms} {e : Equations} {es : List Entry} {buf out : List ℕ} {top : ℕ} {ps : List (ℕ × ℕ)} {p q : Pen} → g.count ≤ 64 → top ≡ upper v xs
+  pub lowered : {g : Terms} {e : Equations} {es : List Entry} {buf out : List ℕ} {top : ℕ} {ps : List (ℕ × ℕ)} {p q : Pen} → top ≡ upper v xs
       → ps ≡ map pair_of xs → Prepared g e es buf u top ps p → Ascended p xs u q → out ≡ q.buf.now → Lowered g e es t r buf u v out q.lines
-  lowered {g} {e} {es} {buf} {out} {top} {ps} {p} {q} hn z y P A o =
+  lowered {g} {e} {es} {buf} {out} {top} {ps} {p} {q} z y P A o =
       rw o
       (record {
         some_lines = omega (arith, A.low);

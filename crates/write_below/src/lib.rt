@@ -2,104 +2,57 @@
 #![tactic(auto)]
 
 ghost use Rattle.std.specs.Prelude.{◌≡◌, ℕ, List, [], ◌∷◌, ◌++◌, ◌+◌, ◌≤◌, ◌<◌, length, take, map};
-ghost use Rattle.graph.specs.Limits.{node_limit, buffer_bytes};
+ghost use Rattle.graph.specs.Limits.{buffer_bytes};
 ghost use Rattle.solve_classes.specs.Table.{Table};
 ghost use Rattle.solve_reach.specs.Reach.{Reaches, Ways};
 ghost use Rattle.write_runs.specs.Pens.{Takes};
-ghost use Rattle.write_needed.specs.Entries.{AllInRange};
 ghost use Rattle.write_below.specs.declared.Rung.{Rung};
 ghost use Rattle.write_below.specs.Steps.{pair_of, upper, OnNodes, AllOnNodes, Leads, Top};
 ghost use Rattle.write_below.specs.Chain.{Descended, Climbed, Arrived, Ascended, Lowered, Circled};
 
+use arrayvec::ArrayVec;
 use proof_lines::Fields;
 use solve_reach::{Down, Search};
-use solve_trace::Trace;
-use std::marker::Model;
-use store::{Equations, Terms};
 use write_runs::Pen;
+use write_same::Grounds;
 
 // A rung of a way up: a step down into the class of node `low`.
-#[derive(Clone, Copy)]
+#[derive(Clone, Copy, Default)]
 struct Rung {
     down: Down,
     low: u8,
 }
 
-// A way up, its lowest rung first: at most 64, since their levels fall. No generic list with `Trace`: such a struct holds no array of a
-// type parameter.
-#[derive(Drop)]
-struct Way {
-    steps: [Rung; 64],
-    count: usize,
-}
-
-impl Model for Way {
-    ghost Value = { List Rung };
-
-    ghost view = { λ w. take w.count w.steps };
-
-    ghost invariant = { λ w. (w.count ≤ 64) × (length w.steps ≡ 64) };
-}
-
-impl Way {
-    fn new() -> Way
-        ensures { result ≡ [] }
-    {
-        let down = Down {
-            parent: 0,
-            place: 0,
-            into: 0,
-            level: 0,
-        };
-        Way {
-            steps: [Rung { down, low: 0 }; 64],
-            count: 0,
-        }
-    }
-
-    fn push(&mut self, step: Rung)
-        requires { length self.old < 64 }
-        ensures { self.new ≡ self.old ++ step ∷ [] }
-    {
-        self.steps[self.count] = step;
-        self.count += 1;
-    }
-
-    fn as_slice(&self) -> &[Rung]
-        ensures { result.now ≡ self.now }
-    {
-        &self.steps[..self.count]
-    }
-
-    // The two nodes of one class at the lower end of each step, for the steps there are. By `steps.map` the proof didn't close.
-    fn pairs(&self) -> [(u8, u8); 64]
-        ensures { take (length self.now) result ≡ map pair_of self.now }
-    {
-        let mut pairs = [(0, 0); 64];
-        for (i, step) in self.steps[..self.count].iter().enumerate() {
-            pairs[i] = (step.down.into, step.low);
-        }
-        pairs
-    }
-}
-
-// The way up from v to u's class.
-fn way_up(table: [u8; 64], search: &Search, u: u8, v: u8) -> Way
+// The way up from v to u's class, its lowest rung first: at most 64, since their levels fall. No struct of table, search and u:
+// only this function looks into them, the others hand them on, and `explain_cycle` goes on from another node than u.
+fn way_up(table: [u8; 64], search: &Search, u: u8, v: u8) -> ArrayVec<Rung, 64>
     requires u_bound { (u < 64) × (v < 64) }
     requires ways { Ways table search.now u × Reaches table search.now v }
     requires table { Table table }
-    ensures { Leads table search.now u v result }
+    ensures { Leads table search.now u v result.items }
 {
-    let mut way = Way::new();
+    let mut way = ArrayVec::new();
     let mut low = v;
-    while let Some(down) = search.reached[table[low as usize] as usize] {
+    while let Some(down) = search.reached[usize::from(table[usize::from(low)])] {
         way.push(Rung { down, low });
         low = down.parent;
-        if table[low as usize] == table[u as usize] {
+        if table[usize::from(low)] == table[usize::from(u)] {
             return way;
         }
     }
     way
+}
+
+// The two nodes of one class at the lower end of each step. In a loop: `collect` asks for an allocator, and `extend` gives a `Result`.
+fn pairs_of(steps: &[Rung]) -> ArrayVec<(u8, u8), 64>
+    requires few_steps { length steps.now ≤ 64 }
+    ensures { result.items ≡ map pair_of steps.now }
+{
+    let mut pairs = ArrayVec::new();
+    for step in steps {
+        pairs.push((step.down.into, step.low));
+    }
+    pairs
 }
 
 // The node at the upper end of a way.
@@ -136,8 +89,8 @@ fn descend(pen: &mut Pen, step: Rung) -> u16
     if into == step.low {
         return down;
     }
-    let i = pen.to[into as usize];
-    let j = pen.to[step.low as usize];
+    let i = pen.to[usize::from(into)];
+    let j = pen.to[usize::from(step.low)];
     let same = pen.link(i, j);
     pen.put(Fields::transitivity(down, same))
 }
@@ -166,8 +119,8 @@ fn arrive(pen: &mut Pen, u: u8, q: u8, l: u16) -> u16
     if u == q {
         return l;
     }
-    let i = pen.to[u as usize];
-    let j = pen.to[q as usize];
+    let i = pen.to[usize::from(u)];
+    let j = pen.to[usize::from(q)];
     let same = pen.link(i, j);
     pen.put(Fields::transitivity(same, l))
 }
@@ -187,26 +140,23 @@ fn ascend(pen: &mut Pen, steps: &[Rung], u: u8)
 // Lines that end in u below v, where `table` is the trace's and the search from u reached v's class. Gives their number.
 pub fn explain_below(
     buf: &mut [u8],
-    t: &Terms,
-    e: &Equations,
-    trace: &Trace,
+    grounds: &Grounds,
     table: [u8; 64],
     search: &Search,
     u: u8,
     v: u8,
 ) -> usize
-    requires room { (t.now.count ≤ node_limit) × ((length trace.now ≤ 63) × (buffer_bytes ≤ length buf.old)) }
-    requires in_range { AllInRange t.now e.now trace.now }
+    requires room { buffer_bytes ≤ length buf.old }
     requires u_bound { (u < 64) × (v < 64) }
     requires ways { Ways table search.now u × Reaches table search.now v }
     requires table { Table table }
-    ensures { Lowered t.now e.now trace.now table search.now buf.old u v buf.new result }
+    ensures { Lowered grounds.now.t.now grounds.now.e.now grounds.now.trace.now table search.now buf.old u v buf.new result }
 {
     let way = way_up(table, search, u, v);
     let steps = way.as_slice();
-    let pairs = way.pairs();
+    let pairs = pairs_of(steps);
     let top = top_of(steps);
-    let mut pen = write_same::prepare(buf, t, e, trace, u, top, &pairs[..steps.len()]);
+    let mut pen = write_same::prepare(buf, grounds, u, top, pairs.as_slice());
     ascend(&mut pen, steps, u);
     pen.lines
 }
@@ -215,20 +165,17 @@ pub fn explain_below(
 // From u itself the lines would go to p and back again, each time that they are unfolded.
 pub fn explain_cycle(
     buf: &mut [u8],
-    t: &Terms,
-    e: &Equations,
-    trace: &Trace,
+    grounds: &Grounds,
     table: [u8; 64],
     search: &Search,
     u: u8,
 ) -> usize
-    requires room { (t.now.count ≤ node_limit) × ((length trace.now ≤ 63) × (buffer_bytes ≤ length buf.old)) }
-    requires in_range { AllInRange t.now e.now trace.now }
+    requires room { buffer_bytes ≤ length buf.old }
     requires u_bound { u < 64 }
     requires ways { Ways table search.now u × Reaches table search.now u }
     requires table { Table table }
-    ensures { Circled t.now e.now trace.now table search.now buf.old buf.new result }
+    ensures { Circled grounds.now.t.now grounds.now.e.now grounds.now.trace.now table search.now buf.old buf.new result }
 {
     let p = top(table, search, u);
-    explain_below(buf, t, e, trace, table, search, p, p)
+    explain_below(buf, grounds, table, search, p, p)
 }

@@ -3,6 +3,7 @@ use mathlib.Core.Path.{◌≡◌, refl}
 use mathlib.Core.List.{List}
 use Prim.Native.Nat.{ℕ, ◌≤◌, ◌<◌}
 use native.Mathlib.Omega.{arith}
+use denote.Struct.Props.{props}
 use Rattle.std.specs.List.{All}
 use Rattle.std.proofs.lemmas.List.Elements.{All-push}
 use Rattle.graph.specs.State.{State}
@@ -11,6 +12,7 @@ use Rattle.store.specs.declared.Terms.{Terms}
 use Rattle.store.specs.declared.Equations.{Equations}
 use Rattle.solve_classes.specs.Table.{class}
 use Rattle.solve_trace.specs.declared.Entry.{Entry}
+use Rattle.solve_trace.specs.declared.Entry.TheVariants as entry
 use Rattle.solve_trace.specs.Trace.{Reason, equation, down, Traced, start, merge}
 use Rattle.solve_trace.proofs.TraceLaws.{reason_known, traced_table}
 use Rattle.solve_trace.proofs.ReplayLaws.{traced_unique}
@@ -69,3 +71,22 @@ module _ (s : State) (L : Limited s) where
 
   pub one_table : {es : List Entry} {t r : List ℕ} → Traced s es t → Traced s es r → (x : ℕ) → x < 64 → class t x ≡ class r x
   one_table T R x h = omega (arith, at_most T R x h, at_most R T x h)
+
+-- ---- that entries are in range is proved in one way only, as a ghost field asks
+
+placed_prop : (e : Entry) → IsProp (Placed e)
+placed_prop (entry.Equation k) = hlevel props
+placed_prop (entry.Children u v j) = hlevel props
+
+in_range_prop : (g : Terms) (q : Equations) (e : Entry) → IsProp (InRange g q e)
+in_range_prop g q e x y =
+    let lefts_prop : IsProp (left_end g q e < 64) = hlevel props in
+    let rights_prop : IsProp (right_end g q e < 64) = hlevel props in
+    λ i. record {
+      placed = placed_prop e x.placed y.placed i;
+      lefts = lefts_prop x.lefts y.lefts i;
+      rights = rights_prop x.rights y.rights i;
+    }
+
+pub all_in_range_prop : (g : Terms) (q : Equations) (es : List Entry) → IsProp (AllInRange g q es)
+all_in_range_prop g q es = hlevel (props, in_range_prop)

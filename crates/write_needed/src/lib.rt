@@ -16,10 +16,10 @@ pub fn ends_of(entry: Entry, t: &Terms, e: &Equations) -> (u8, u8)
     ensures right { result.1 ≡ right_end t.now e.now entry }
 {
     match entry {
-        Entry::Equation(k) => (e.left[k as usize], e.right[k as usize]),
+        Entry::Equation(k) => (e.left[usize::from(k)], e.right[usize::from(k)]),
         Entry::Children { left, right, place } => (
-            t.child[4 * left as usize + place as usize],
-            t.child[4 * right as usize + place as usize],
+            t.child[4 * usize::from(left) + usize::from(place)],
+            t.child[4 * usize::from(right) + usize::from(place)],
         ),
     }
 }
@@ -31,7 +31,9 @@ fn together(table: &[u8; 64], entry: Entry) -> bool
 {
     match entry {
         Entry::Equation(_) => true,
-        Entry::Children { left, right, .. } => table[left as usize] == table[right as usize],
+        Entry::Children { left, right, .. } => {
+            table[usize::from(left)] == table[usize::from(right)]
+        }
     }
 }
 
@@ -42,7 +44,7 @@ fn paired(table: &[u8; 64], pairs: &[(u8, u8)]) -> bool
 {
     pairs
         .iter()
-        .all(|(x, y)| table[*x as usize] == table[*y as usize])
+        .all(|(x, y)| table[usize::from(*x)] == table[usize::from(*y)])
 }
 
 // The table that the entries make on from `table`, if each joins two of its classes.
@@ -53,8 +55,8 @@ fn rebuild(mut table: [u8; 64], entries: &[Entry], t: &Terms, e: &Equations) -> 
 {
     for entry in entries {
         let (a, b) = ends_of(*entry, t, e);
-        let ca = table[a as usize];
-        let cb = table[b as usize];
+        let ca = table[usize::from(a)];
+        let cb = table[usize::from(b)];
         if ca == cb || !together(&table, *entry) {
             return None;
         }
@@ -85,46 +87,32 @@ fn joins(
     let Some(table) = rebuild(first, after, t, e) else {
         return false;
     };
-    table[u as usize] == table[v as usize] && paired(&table, pairs)
+    table[usize::from(u)] == table[usize::from(v)] && paired(&table, pairs)
 }
 
-// The trace goes on by the entries.
-fn append(trace: &mut Trace, entries: &[Entry])
-    requires { length trace.old + length entries.now ≤ 64 }
-    ensures { trace.new ≡ trace.old ++ entries.now }
-{
-    for entry in entries {
-        trace.push(*entry);
-    }
-}
-
-// The entries of both as one trace.
-fn both(before: &[Entry], after: &[Entry]) -> Trace
-    requires { length before.now + length after.now ≤ 64 }
-    ensures { result ≡ before.now ++ after.now }
+// A trace of the entries.
+fn traced(entries: &[Entry]) -> Trace
+    requires { length entries.now ≤ 64 }
+    ensures { result.items ≡ entries.now }
 {
     let mut trace = Trace::new();
-    append(&mut trace, before);
-    append(&mut trace, after);
+    let _ = trace.try_extend_from_slice(entries);
     trace
 }
 
-// Entries are dropped, the last first, while the rest still join u and v, and each pair.
-pub fn trim(trace: &Trace, t: &Terms, e: &Equations, u: u8, v: u8, pairs: &[(u8, u8)]) -> Trace
+// Entries are dropped, the last first, while the rest still join u and v, and each pair. No struct of `t`, `e` and entries in range: `joins`
+// looks at the entries before and behind each one that is tried, so two structs would be made, and their fact proved, for each try.
+pub fn trim(trace: &[Entry], t: &Terms, e: &Equations, u: u8, v: u8, pairs: &[(u8, u8)]) -> Trace
     requires few { length trace.now ≤ 64 }
     requires in_range { AllInRange t.now e.now trace.now }
     requires u_bound { (u < 64) × (v < 64) }
     requires pairs { NodePairs pairs.now }
-    ensures { Trimmed t.now e.now trace.now u v pairs.now result }
+    ensures { Trimmed t.now e.now trace.now u v pairs.now result.items }
 {
-    let mut kept = both(trace.as_slice(), &[]);
+    let mut kept = traced(trace);
     for k in (0..trace.len()).rev() {
-        let entries = kept.as_slice();
-        let before = &entries[..k];
-        let after = &entries[k + 1..];
-        if joins(before, after, t, e, u, v, pairs) {
-            let less = both(before, after);
-            kept = less;
+        if joins(&kept[..k], &kept[k + 1..], t, e, u, v, pairs) {
+            kept.remove(k);
         }
     }
     kept

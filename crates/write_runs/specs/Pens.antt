@@ -2,16 +2,15 @@
 --   Takes        the buffer takes k lines more
 --   Continues   q is p with some lines more, or none: the same buffer and nodes, and the bytes past the lines are as they were
 --   NextLine    q is p with the line l more, which has number r
-use Rattle.std.specs.Prelude.{◌≡◌, ℕ, ◌+◌, ◌≤◌, length}
-use Rattle.graph.specs.Limits.{line_limit, buffer_bytes}
+use Rattle.std.specs.Prelude.{◌≡◌, ℕ, ◌+◌, ◌≤◌}
+use Rattle.graph.specs.Limits.{line_limit}
 use Rattle.graph.specs.Lines.{Line}
 use Rattle.proof_lines.specs.Codec.{Put}
 use Rattle.proof_lines.specs.Proof.{Kept}
 use Rattle.write_runs.specs.declared.Pen.{Pen}
 
-pub record Takes (p : Pen) (k : ℕ) : Type 0 where
-  pub lines : p.lines + k ≤ line_limit
-  pub bytes : buffer_bytes ≤ length p.buf.now
+abbrev pub Takes : Pen → ℕ → Type 0
+Takes p k = p.lines + k ≤ line_limit
 
 pub record Continues (p q : Pen) : Type 0 where
   pub same_reference : q.buf.ghost_name ≡ p.buf.ghost_name

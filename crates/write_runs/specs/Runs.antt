@@ -57,7 +57,6 @@ pub record Started (buf : List ℕ) (n x : ℕ) (q : Pen) : Type 0 where
   pub nodes : q.nodes ≡ n
   pub count : q.lines ≡ x
   pub kept : Kept x buf q.buf.now
-  pub size : length q.to ≡ 64
   pub more : (s : State) → x ≤ length s.nodes → (cs : List Claim) × (LinesClaim s q cs × ((i : ℕ) → i < x → ClaimAt cs (get_or q.to i 0) (same i i)))
 
 -- the first x nodes are done: those of class gone have a line to keep, by line l, which claims gone same keep
@@ -72,7 +71,6 @@ pub record Absorbed (p : Pen) (t : List ℕ) (keep gone l x : ℕ) (q : Pen) : T
   pub continues : Continues p q
   pub high : q.lines ≤ p.lines + x
   pub tight : q.lines ≤ p.lines + sum_to (member_at t gone) x
-  pub size : length q.to ≡ 64
   pub more : (s : State) (cs : List Claim) → length s.nodes ≡ p.nodes → LinesClaim s p cs → LineForEach s cs (class t) p.to
       → ClaimAt cs l (same gone keep) → Absorbing s (class t) keep gone l x q
 
@@ -81,6 +79,5 @@ pub record Rewired (p : Pen) (t : List ℕ) (l a b : ℕ) (q : Pen) : Type 0 whe
   pub continues : Continues p q
   pub high : q.lines ≤ p.lines + 67
   pub tight : q.lines + class_count t ≤ p.lines + 68
-  pub size : length q.to ≡ 64
   pub more : (s : State) (cs : List Claim) → length s.nodes ≡ p.nodes → IsNode s a → IsNode s b → LinesClaim s p cs → LineForEach s cs (class t) p.to
       → ClaimAt cs l (same a b) → Rooted s (merged_class (class t) a b) q

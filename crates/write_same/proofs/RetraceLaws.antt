@@ -37,7 +37,6 @@ stepped {q} {p} {o} {r} {t} {e} {l} {a} {b} W R =
       continues = goes_on W.continues R.continues;
       high = omega (arith, W.high, R.high);
       tight = omega (arith, W.high, R.tight);
-      size = R.size;
       more = λ s N w B.
           let k = reason_known s N.limited.proper w in
           let u = W.more s B.claims t a b N w B.written B.number in
@@ -88,12 +87,11 @@ module _ {g : Terms} {q : Equations} {es : List Entry} where
 -- ---- the lines of a trace
 
 module _ {g : Terms} {q : Equations} {es : List Entry} {p : Pen} where
-  pub retracing_none : {t : List ℕ} → Fresh t → length p.to ≡ 64 → Retracing g q es p 0 t p
-  retracing_none F h =
+  pub retracing_none : {t : List ℕ} → Fresh t → Retracing g q es p 0 t p
+  retracing_none F =
       record {
         continues = goes_none p;
         high = omega (arith, sum_none (λ i. i));
-        size = h;
         classes = omega (arith, fresh_count _ F);
         made = made_none F;
         more = λ s u D T. rooted_cong (λ x k. sym (F.alone x (omega (arith, k, D.ends.limited.fits))));
@@ -112,7 +110,6 @@ module _ {g : Terms} {q : Equations} {es : List Entry} {p : Pen} where
         record {
           continues = goes_on R.continues S.continues;
           high = omega (arith, R.high, S.tight, R.classes, sum_more (λ i. i) k);
-          size = S.size;
           classes = omega (arith, R.classes, one_fewer t u a b M);
           made = made_more R.made h d ea eb M;
           more = λ s v D T B.
@@ -127,7 +124,6 @@ module _ {g : Terms} {q : Equations} {es : List Entry} {p : Pen} where
         record {
           continues = R.continues;
           high = rw e at R.high;
-          size = R.size;
           more = λ s u D T B.
               let T' : Traced s es t = rw (take_all k es h) at (R.made.traced s u D.ends T) in
               rooted_cong (λ x i. one_table s D.ends.limited T' T x (omega (arith, i, D.ends.limited.fits))) (R.more s u D T B);
@@ -143,7 +139,6 @@ module _ {g : Terms} {q : Equations} {es : List Entry} {buf : List ℕ} {u v : �
         nodes = R.continues.nodes ∙ S.nodes;
         high = omega (arith, R.high, S.count, rising (length few) (omega (arith, T.less)));
         kept = kept_kept {n = g.count} (omega (arith, R.continues.low, S.count)) S.kept R.continues.kept;
-        size = R.size;
         ready = λ s D J.
             let j = T.joins s D.ends J in
             record { table = j.table; lines = R.more s j.table D j.traced (started_rooted S s D.names.count); joined = j.joined; pairs = j.pairs };

@@ -50,14 +50,12 @@ pub record EntryReplayed (q : Equations) (p : Pen) (t : List ℕ) (e : Entry) (a
   pub continues : Continues p r
   pub high : r.lines ≤ p.lines + 70
   pub tight : r.lines + class_count t ≤ p.lines + 71
-  pub size : length r.to ≡ 64
   pub more : (s : State) → Names p.nodes q s → Reason s t e a b → Rooted s (class t) p → Rooted s (merged_class (class t) a b) r
 
 -- from a line for each node to itself on: an entry with k before it takes at most k + 7 lines
 pub record Retraced (g : Terms) (q : Equations) (es : List Entry) (p r : Pen) : Type 0 where
   pub continues : Continues p r
   pub high : r.lines ≤ p.lines + 7 * length es + sum_to (λ i. i) (length es)
-  pub size : length r.to ≡ 64
   pub more : (s : State) (t : List ℕ) → Describes g q s → Traced s es t → Rooted s (λ x. x) p → Rooted s (class t) r
 
 -- t is the table of the first k entries
@@ -68,7 +66,6 @@ pub record Made (g : Terms) (q : Equations) (es : List Entry) (k : ℕ) (t : Lis
 pub record Retracing (g : Terms) (q : Equations) (es : List Entry) (p : Pen) (k : ℕ) (t : List ℕ) (r : Pen) : Type 0 where
   pub continues : Continues p r
   pub high : r.lines ≤ p.lines + 7 * k + sum_to (λ i. i) k
-  pub size : length r.to ≡ 64
   pub classes : 64 ≤ class_count t + k
   pub made : Made g q es k t
   pub more : (s : State) (u : List ℕ) → Describes g q s → Traced s es u → Rooted s (λ x. x) p → Rooted s (class t) r
@@ -85,7 +82,6 @@ pub record Prepared (g : Terms) (q : Equations) (es : List Entry) (buf : List �
   pub nodes : r.nodes ≡ g.count
   pub high : r.lines ≤ g.count + 2394
   pub kept : Kept r.lines buf r.buf.now
-  pub size : length r.to ≡ 64
   pub ready : (s : State) → Describes g q s → Joined s es u v ps → LinesReady s u v ps r
 
 -- the entries join u and v

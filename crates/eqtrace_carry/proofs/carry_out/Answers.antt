@@ -7,5 +7,5 @@ use Rattle.eqtrace_carry.proofs.carry_out.Goals as goal
 
 pub returns-in-Functor : goal.returns-in-Functor
 returns-in-Functor c =
-    carries_functor _ _ _ (sym c.parse.ensures ∙ c.in-Some.is ∙ ap (λ (x : Order). Some x) c.in-Functor.is) _ _ _ _ _ _
-    (rw c.as_slice.ensures at c.carry_functor.ensures)
+    carries_functor _ _ _ (sym c.parse.ensures ∙ c.in-Some.is ∙ ap (λ (x : Order). Some x) c.in-Functor.is) _ _ _ _ _ _ _
+    (rw c.as_slice.ensures.value at c.carry_functor.ensures _ _)

@@ -4,7 +4,7 @@ use Rattle.std.proofs.lemmas.Iterator.Consumers.{YieldsList-turn, YieldsList-end
 use Rattle.std.proofs.lemmas.Iterator.Splits.{YieldsList-from_slice_split}
 use Rattle.std.proofs.lemmas.List.{length_push}
 use Rattle.eqtrace_orders.specs.Parse.{six_of}
-use Rattle.eqtrace_orders.proofs.WordLaws.{split_slice, found_none, found_some, reading_bad, reading_more, reading_all}
+use Rattle.eqtrace_orders.proofs.WordLaws.{split_slice, found_none, found_some, kept_more, reading_bad, reading_more, reading_all}
 use Rattle.eqtrace_orders.proofs.collect.Goals as goal
 
 pub returns-in_err-number : goal.returns-in_err-number
@@ -18,7 +18,7 @@ pub loop-word-preserved : goal.loop-word-preserved
 loop-word-preserved c =
     let t = YieldsList-turn (YieldsList-from_slice_split {s = c.into_iter-word-iterator.result} _ (λ b. eqb b 32) c.args.words.now (search rules) (search rules) (search rules) (λ x r q k. search (rules, tests))) c.loop-word.yielded _ c.loop-word.yielded_by _ _ c.in-Some.word c.in-Some.is c.next.ensures.steps in
     let w = rw (split_slice 32 c.args.words.now) at t in
-    (search rules, search rules, rw (length_push c.loop-word.yielded c.in-Some.word) (reading_more _ _ _ c.loop-word.invariant.2 _ w.0 w.1 _ (found_some _ _ (sym c.number.ensures ∙ c.in_ok-number.was)) _ c.push.ensures))
+    (search rules, search rules, rw (length_push c.loop-word.yielded c.in-Some.word) (reading_more _ _ _ c.loop-word.invariant.2 _ w.0 w.1 _ (found_some _ _ (sym c.number.ensures ∙ c.in_ok-number.was)) _ (kept_more c.try_push.result _ _ _ c.try_push.ensures.variant c.try_push.ensures.ok c.try_push.ensures.err c.try_push.ensures.full)))
 
 pub returns : goal.returns
 returns c =

@@ -8,4 +8,4 @@ abbrev pub invariant-loop-word : goal.invariant-loop-word
 invariant-loop-word l =
     (goal.iterator-loop-word).can_next l.word-iterator ×
     (goal.iterator-loop-word).is_finite l.word-iterator ×
-    Reading (split 32 l.words) (length l.yielded) l.numbers
+    Reading (split 32 l.words) (length l.yielded) l.numbers.items

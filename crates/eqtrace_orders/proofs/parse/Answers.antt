@@ -16,12 +16,12 @@ returns-in_err-collect-in-32 c =
 pub by_letter-requires-in-32 : goal.by_letter-requires-in-32
 by_letter-requires-in-32 c =
     let b : get_or c.args.line.now 1 0 ≡ 32 = omega arith in
-    rw c.as_slice.ensures (words_read c.args.line.now (omega arith) b _ (sym c.collect.ensures ∙ c.in_ok-collect-in-32.was)).0
+    rw c.as_slice.ensures.value (words_read c.args.line.now (omega arith) b _ (sym c.collect.ensures ∙ c.in_ok-collect-in-32.was)).0
 
 pub returns-in_ok-collect-in-32 : goal.returns-in_ok-collect-in-32
 returns-in_ok-collect-in-32 c =
     let b : get_or c.args.line.now 1 0 ≡ 32 = omega arith in
-    rw (c.by_letter-in-32.ensures, c.as_slice.ensures) (words_read c.args.line.now (omega arith) b _ (sym c.collect.ensures ∙ c.in_ok-collect-in-32.was)).1
+    rw (c.by_letter-in-32.ensures, c.as_slice.ensures.value) (words_read c.args.line.now (omega arith) b _ (sym c.collect.ensures ∙ c.in_ok-collect-in-32.was)).1
 
 pub returns-in_default : goal.returns-in_default
 returns-in_default c =

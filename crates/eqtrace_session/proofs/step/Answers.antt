@@ -8,19 +8,19 @@ use Rattle.eqtrace_session.proofs.LeftLaws.{within}
 use Rattle.eqtrace_session.proofs.StepLaws.{steps_at}
 use Rattle.eqtrace_session.proofs.step.Goals as goal
 
-pub order_at-requires : goal.order_at-requires
-order_at-requires c =
-    let b = within _ _ _ left.Order (sym c.left_at.ensures ∙ c.in-Order.is) false refl in
-    (b.inside, ltb-false _ _ b.long, b.number, search rules, search rules, search rules)
+pub order-requires : goal.order-requires
+order-requires c =
+    let b = within _ _ _ left.Order (sym c.left.ensures ∙ c.in-Order.is) false refl in
+    (b.inside, ltb-false _ _ b.long, b.number)
 
 pub returns-in-Nothing : goal.returns-in-Nothing
 returns-in-Nothing c =
-    steps_at _ _ _ _ _ _ _ left.Nothing (sym c.in-Nothing.is ∙ c.left_at.ensures) (refl, refl, refl) (search rules) (search rules)
+    steps_at _ _ _ _ _ _ _ left.Nothing (sym c.in-Nothing.is ∙ c.left.ensures) (refl, refl, refl) (search rules) (search rules)
 
 pub returns-in-TooLong : goal.returns-in-TooLong
 returns-in-TooLong c =
-    steps_at _ _ _ _ _ _ _ left.TooLong (sym c.in-TooLong.is ∙ c.left_at.ensures) (c.too_long.ensures, refl) (search rules) (search rules)
+    steps_at _ _ _ _ _ _ _ left.TooLong (sym c.in-TooLong.is ∙ c.left.ensures) (c.too_long.ensures, refl) (search rules) (search rules)
 
 pub returns-in-Order : goal.returns-in-Order
 returns-in-Order c =
-    steps_at _ _ _ _ _ _ _ left.Order (sym c.in-Order.is ∙ c.left_at.ensures) c.order_at.ensures (search rules) (let k = c.order_at.auto in search rules)
+    steps_at _ _ _ _ _ _ _ left.Order (sym c.in-Order.is ∙ c.left.ensures) c.order.ensures c.args.lent.now.sizes.0 c.order.new.lent.sizes.2

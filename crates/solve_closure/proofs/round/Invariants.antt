@@ -3,4 +3,4 @@ use Rattle.solve_closure.proofs.VisitLaws.{Passed}
 use Rattle.solve_closure.proofs.round.Given as goal
 
 abbrev pub invariant-loop-u : goal.invariant-loop-u
-invariant-loop-u l = Passed l.t l.initial.table l.initial.trace l.u l.table l.trace l.head
+invariant-loop-u l = Passed l.t l.initial.table l.initial.trace.items l.u l.table l.trace.items l.head

@@ -5,7 +5,7 @@ use Rattle.solve_trace.specs.Steps.{Extends}
 use Rattle.solve_closure.proofs.rounds.Given as goal
 
 abbrev pub invariant-loop-trace : goal.invariant-loop-trace
-invariant-loop-trace l = Extends (Nodes l.t) l.initial.table l.initial.trace l.table l.trace
+invariant-loop-trace l = Extends (Nodes l.t) l.initial.table l.initial.trace.items l.table l.trace.items
 
 abbrev pub decreases-loop-trace : goal.decreases-loop-trace
-decreases-loop-trace l = 64 - length l.trace
+decreases-loop-trace l = 64 - length l.trace.items

@@ -7,7 +7,7 @@ use Rattle.solve_closure.proofs.settle_offered.Goals as goal
 pub rounds-requires-clause-trace_fits : goal.rounds-requires-clause-trace_fits
 rounds-requires-clause-trace_fits c =
     let A = c.requires in
-    joins_ready (omega (arith, A.left, A.formed.most)) (omega (arith, A.right, A.formed.most)) A.ready c.join-table.ensures
+    joins_ready (omega (arith, A.left, A.formed.most)) (omega (arith, A.right, A.formed.most)) A.ready c.join.ensures
 
 pub returns-clause-settled : goal.returns-clause-settled
-returns-clause-settled c = solved_offered _ _ _ _ _ _ c.requires c.join-table.ensures c.rounds.ensures
+returns-clause-settled c = solved_offered _ _ _ _ _ _ c.requires c.join.ensures c.rounds.ensures

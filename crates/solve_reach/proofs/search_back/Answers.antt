@@ -1,7 +1,6 @@
 -- `solve_reach::search_back` meets its contract.
 use mathlib.Core.Path.{sym, ◌∙◌}
 use Rattle.std.proofs.Common.{eq-eqb}
-use Rattle.base.proofs.AbsurdLaws.{true_is_false}
 use Rattle.solve_reach.proofs.SearchLaws.{peel_took, never_back}
 use Rattle.solve_reach.proofs.search_back.Goals as goal
 use Rattle.solve_reach.proofs.search_back.Goals.{then-not-is_functor-via-then-not-is_functor, then-not-is_functor-via-else-not-is_functor+then-is_some}
@@ -9,7 +8,7 @@ use Rattle.solve_reach.proofs.search_back.Goals.{then-not-is_functor-via-then-no
 pub returns-then-not-is_functor : goal.returns-then-not-is_functor
 returns-then-not-is_functor c =
     elim c.then-not-is_functor.branch [
-      | then-not-is_functor-via-then-not-is_functor w ↦ λ s N E U b. true_is_false (sym (c.is_functor.ensures ∙ eq-eqb _ _ U.kind) ∙ w.if-not-is_functor.true)
+      | then-not-is_functor-via-then-not-is_functor w ↦ λ s N E U b. cc (c.is_functor.ensures, eq-eqb _ _ U.kind, w.if-not-is_functor.true)
       | then-not-is_functor-via-else-not-is_functor+then-is_some w ↦
           peel_took _ _ _ c.requires.table c.requires.formed _ c.requires.peeled _ c.from-c.ensures (sym w.is_some.ensures ∙ w.if-is_some.true)
     ]

@@ -1,28 +1,29 @@
--- `solve_trace::join_children` meets its contract: after k turns the first k children are joined.
-use Rattle.std.proofs.Common.{rules, length, arith, length-append}
+-- `solve_trace::join_children` meets its contract: what its closure gives for k is the k-th place of the two nodes.
+use Rattle.std.proofs.Common.{rules, ◌≡◌, ◌<◌, ℕ, length, get_or, arith}
+use Rattle.base.proofs.TabLaws.{tab_length, tab_get_d}
 use Rattle.store.specs.Views.{arity_at, child_at}
-use Rattle.solve_trace.specs.Steps.{Places, grown}
-use Rattle.solve_trace.proofs.LoopLaws.{child_turn}
-use Rattle.solve_trace.proofs.StepLaws.{ready_room, pairs_more, pairs_skip}
+use Rattle.solve_trace.specs.declared.Entry.TheVariants.{Children}
+use Rattle.solve_trace.specs.Steps.{Places}
+use Rattle.solve_trace.proofs.StepLaws.{pairs_only}
 use Rattle.solve_trace.proofs.join_children.Goals as goal
 
-pub push-requires : goal.push-requires
-push-requires c = ready_room c.loop-k.invariant.extends.ready
+pub join_pairs-requires-clause-callable : goal.join_pairs-requires-clause-callable
+join_pairs-requires-clause-callable c = λ k h.
+    let l : length c.first_children.result.now ≡ arity_at c.args.t.now c.args.u = search (rules, tab_length) in
+    let b : k < 256 = omega (arith, h, l, c.requires.u_bound.2) in
+    search rules
 
-pub loop-k-preserved-then-first-second : goal.loop-k-preserved-then-first-second
-loop-k-preserved-then-first-second c =
+pub returns : goal.returns
+returns c =
     let g = c.args.t.now in
-    let n = length c.loop-k.yielded in
-    let w = child_turn g c.args.u c.args.v (arity_at g c.args.u) c.loop-k.yielded c.into_iter-k-iterator.result c.loop-k.k-iterator c.next.new.self c.next.result (search rules) (search rules) (search rules) c.loop-k.yielded_by _ c.in-Some.is c.next.ensures.steps in
-    let b = c.requires.by_index _ w.1 in
+    let u = c.args.u in
+    let v = c.args.v in
     let m = c.requires.u_bound in
-    let joined = c.loop-k.invariant.extends.grows _ _ m.0 m.1 m.3 in
-    rw (length-append, c.push.ensures) (pairs_more (Places g c.args.u c.args.v) (child_at g c.args.u) (child_at g c.args.v) n w.2 w.3 (λ j h. c.requires.by_index j (omega (arith, w.1))) (λ s E. rw w.0 (E _ n joined w.1)) c.loop-k.invariant
-    (grown (λ q. c.if-first-second.true (cc)) (c.unite-next.ensures _ _ (omega (arith, w.2, b.0)) (omega (arith, w.3, b.1)) (cc) (cc))))
-
-pub loop-k-preserved : goal.loop-k-preserved
-loop-k-preserved c =
-    let g = c.args.t.now in
-    let n = length c.loop-k.yielded in
-    let w = child_turn g c.args.u c.args.v (arity_at g c.args.u) c.loop-k.yielded c.into_iter-k-iterator.result c.loop-k.k-iterator c.next.new.self c.next.result (search rules) (search rules) (search rules) c.loop-k.yielded_by _ c.in-Some.is c.next.ensures.steps in
-    rw length-append (pairs_skip (Places g c.args.u c.args.v) (child_at g c.args.u) (child_at g c.args.v) n w.2 w.3 (cc) c.loop-k.invariant)
+    let xs = c.first_children.result.now in
+    let ys = c.first_children-2.result.now in
+    let l : length xs ≡ arity_at g u = search (rules, tab_length) in
+    let x = λ (j : ℕ) (h : j < arity_at g u). let q : get_or xs j 0 ≡ child_at g u j = search (rules, tab_get_d) in q in
+    let y = λ (j : ℕ) (h : j < arity_at g u). let q : get_or ys j 0 ≡ child_at g v j = search (rules, tab_get_d) in q in
+    pairs_only _ (Places g u v) (child_at g u) (child_at g v) xs ys (arity_at g u) l
+    (λ s E k n r h p grows. let is : n ≡ Children u v k = search rules in let b : k < arity_at g u = omega (arith, h, l) in rw (is, x k b, y k b) (E r k (grows u v m.0 m.1 m.3) b))
+    (λ j h. (x j h, y j h)) c.join_pairs.ensures

@@ -1,27 +1,19 @@
--- `solve_trace::join_equations` meets its contract: after k turns the first k equations are joined.
-use Rattle.std.proofs.Common.{rules, ℕ, length, get_or, arith, length-append}
+-- `solve_trace::join_equations` meets its contract: what its closure gives for k is equation k.
+use Rattle.std.proofs.Common.{rules, ◌≡◌, ◌<◌, ℕ, length, get_or, arith, length-take, get_or-take, take}
+use Rattle.solve_trace.specs.declared.Entry.TheVariants.{Equation}
 use Rattle.solve_trace.specs.Nodes.{EquationEnds}
-use Rattle.solve_trace.specs.Steps.{grown}
-use Rattle.solve_trace.proofs.LoopLaws.{equation_turn}
-use Rattle.solve_trace.proofs.StepLaws.{ready_room, pairs_more, pairs_skip}
+use Rattle.solve_trace.proofs.StepLaws.{pairs_only}
 use Rattle.solve_trace.proofs.ReasonLaws.{by_equation_lem}
 use Rattle.solve_trace.proofs.join_equations.Goals as goal
 
-pub push-requires : goal.push-requires
-push-requires c = ready_room c.loop-k.invariant.extends.ready
-
-pub loop-k-preserved-then-first-second : goal.loop-k-preserved-then-first-second
-loop-k-preserved-then-first-second c =
+pub join_pairs-requires-clause-callable : goal.join_pairs-requires-clause-callable
+join_pairs-requires-clause-callable c = λ k h.
     let e = c.args.e.now in
-    let n = length c.loop-k.yielded in
-    let w = equation_turn e c.loop-k.yielded c.into_iter-k-iterator.result c.loop-k.k-iterator c.next.new.self c.next.result (search rules) (search rules) (search rules) c.loop-k.yielded_by _ c.in-Some.is c.next.ensures.steps in
-    let b = c.requires.by_index _ w.1 in
-    rw (length-append, c.push.ensures) (pairs_more (EquationEnds e) (λ (j : ℕ). get_or e.left j 0) (λ (j : ℕ). get_or e.right j 0) n w.2 w.3 (λ j h. c.requires.by_index j (omega (arith, w.1))) (λ s E. by_equation_lem e _ s n _ (omega (arith, w.0)) w.1 E) c.loop-k.invariant
-    (grown (λ q. c.if-first-second.true (cc)) (c.unite-next.ensures _ _ (omega (arith, w.2, b.0)) (omega (arith, w.3, b.1)) (cc) (cc))))
+    let b : k < 65536 = omega (arith, h, length-take e.count e.left, c.requires.few) in
+    search rules
 
-pub loop-k-preserved : goal.loop-k-preserved
-loop-k-preserved c =
+pub returns : goal.returns
+returns c =
     let e = c.args.e.now in
-    let n = length c.loop-k.yielded in
-    let w = equation_turn e c.loop-k.yielded c.into_iter-k-iterator.result c.loop-k.k-iterator c.next.new.self c.next.result (search rules) (search rules) (search rules) c.loop-k.yielded_by _ c.in-Some.is c.next.ensures.steps in
-    rw length-append (pairs_skip (EquationEnds e) (λ (j : ℕ). get_or e.left j 0) (λ (j : ℕ). get_or e.right j 0) n w.2 w.3 (cc) c.loop-k.invariant)
+    let l : length (take e.count e.left) ≡ e.count = search (rules, length-take) in
+    pairs_only _ (EquationEnds e) (λ (j : ℕ). get_or e.left j 0) (λ (j : ℕ). get_or e.right j 0) (take e.count e.left) (take e.count e.right) e.count l (λ s E k n r h p grows. let is : n ≡ Equation k = search rules in let b : k < e.count = omega (arith, h, l) in rw (is, get_or-take e.count e.left k 0 b, get_or-take e.count e.right k 0 b) (by_equation_lem e r s k b E)) (λ j h. (get_or-take e.count e.left j 0 h, get_or-take e.count e.right j 0 h)) c.join_pairs.ensures

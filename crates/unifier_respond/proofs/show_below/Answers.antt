@@ -1,14 +1,13 @@
 -- `unifier_respond::show_below` meets its contract.
-use Rattle.write_same.proofs.ShapeLaws.{shape_range}
-use Rattle.unifier_respond.proofs.ShowLaws.{writer_room, closure_table, shown_below}
+use Rattle.write_same.proofs.ShapeLaws.{shape_range, shape_steps}
+use Rattle.unifier_respond.proofs.ShowLaws.{closure_table, shown_below}
 use Rattle.unifier_respond.proofs.show_below.Goals as goal
 
-pub explain_below-requires-clause-room : goal.explain_below-requires-clause-room
-explain_below-requires-clause-room c =
-    writer_room _ _ c.requires.shape _ c.requires.traced_closure.traced c.requires.proof_room
+pub invariant_of-grounds-clause-few_entries : goal.invariant_of-grounds-clause-few_entries
+invariant_of-grounds-clause-few_entries c = shape_steps _ _ c.requires.shape c.requires.traced_closure.traced
 
-pub explain_below-requires-clause-in_range : goal.explain_below-requires-clause-in_range
-explain_below-requires-clause-in_range c = shape_range _ _ c.requires.shape c.requires.traced_closure.traced
+pub invariant_of-grounds-clause-in_range : goal.invariant_of-grounds-clause-in_range
+invariant_of-grounds-clause-in_range c = shape_range _ _ c.requires.shape c.requires.traced_closure.traced
 
 pub explain_below-requires-clause-table : goal.explain_below-requires-clause-table
 explain_below-requires-clause-table c = closure_table _ _ c.requires.shape c.requires.traced_closure

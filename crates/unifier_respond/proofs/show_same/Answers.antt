@@ -1,14 +1,13 @@
 -- `unifier_respond::show_same` meets its contract.
-use Rattle.write_same.proofs.ShapeLaws.{shape_range}
-use Rattle.unifier_respond.proofs.ShowLaws.{writer_room, shown_same}
+use Rattle.write_same.proofs.ShapeLaws.{shape_range, shape_steps}
+use Rattle.unifier_respond.proofs.ShowLaws.{shown_same}
 use Rattle.unifier_respond.proofs.show_same.Goals as goal
 
-pub explain_same-requires-clause-room : goal.explain_same-requires-clause-room
-explain_same-requires-clause-room c =
-    writer_room _ _ c.requires.shape _ c.requires.one_class.traced c.requires.proof_room
+pub invariant_of-grounds-clause-few_entries : goal.invariant_of-grounds-clause-few_entries
+invariant_of-grounds-clause-few_entries c = shape_steps _ _ c.requires.shape c.requires.one_class.traced
 
-pub explain_same-requires-clause-in_range : goal.explain_same-requires-clause-in_range
-explain_same-requires-clause-in_range c = shape_range _ _ c.requires.shape c.requires.one_class.traced
+pub invariant_of-grounds-clause-in_range : goal.invariant_of-grounds-clause-in_range
+invariant_of-grounds-clause-in_range c = shape_range _ _ c.requires.shape c.requires.one_class.traced
 
 pub returns : goal.returns
 returns c =

@@ -3,8 +3,8 @@ use Rattle.std.proofs.Common.{◌-◌, length}
 use Rattle.write_below.specs.Steps.{OnTheWay}
 use Rattle.write_below.proofs.way_up.Given as goal
 
-abbrev pub invariant-loop-low : goal.invariant-loop-low
-invariant-loop-low l = OnTheWay l.table l.search l.v l.way l.low
+abbrev pub invariant-loop-down : goal.invariant-loop-down
+invariant-loop-down l = OnTheWay l.table l.search l.v l.way.items l.low
 
-abbrev pub decreases-loop-low : goal.decreases-loop-low
-decreases-loop-low l = 64 - length l.way
+abbrev pub decreases-loop-down : goal.decreases-loop-down
+decreases-loop-down l = 64 - length l.way.items

@@ -4,4 +4,4 @@ use Rattle.write_same.proofs.RetraceLaws.{explained}
 use Rattle.write_same.proofs.explain_same.Goals as goal
 
 pub returns : goal.returns
-returns c = explained c.prepare-pen.ensures.prepared c.link.ensures (search rules)
+returns c = explained c.prepare-pen.ensures.prepared (rw (c.from.ensures, c.from-2.ensures) at c.link.ensures) (search rules)

@@ -1,27 +1,23 @@
 -- `write_same::replay` meets its contract: after k turns the table and the lines are those of the first k entries.
-use mathlib.Core.Path.{ap}
+use mathlib.Core.Path.{refl}
 use Prim.Native.Nat.{◌≤◌}
 use native.Mathlib.Omega.{arith}
-use lib.ListN.{length}
 use borrow.Author.Rules.{rules}
 use Rattle.write_same.proofs.RetraceLaws.{rising, retracing_none, retracing_more, retraced}
 use Rattle.write_same.proofs.replay.Goals as goal
 
 pub loop-entry-init : goal.loop-entry-init
-loop-entry-init c = retracing_none c.fresh-table.ensures (search rules)
+loop-entry-init c = retracing_none c.fresh-table.ensures
 
 pub step-requires-clause-room : goal.step-requires-clause-room
 step-requires-clause-room c =
     let R = c.loop-entry.invariant in
-    let k : c.loop-entry.entry-index ≤ 63 = omega (arith, ap length c.as_slice-entry-items.ensures, c.requires.room.0) in
-    record {
-      lines = omega (arith, R.high, rising c.loop-entry.entry-index k, c.requires.start.0);
-      bytes = omega (arith, R.continues.kept.size, c.requires.room.1);
-    }
+    let k : c.loop-entry.entry-index ≤ 63 = omega (arith, c.args.grounds.now.few_entries) in
+    omega (arith, R.high, rising c.loop-entry.entry-index k, c.requires.0)
 
 pub loop-entry-preserved : goal.loop-entry-preserved
 loop-entry-preserved c =
-    retracing_more c.loop-entry.invariant c.as_slice-entry-items.result.now _ c.as_slice-entry-items.ensures (search rules) (search rules)
+    retracing_more c.loop-entry.invariant c.args.grounds.now.trace.now _ refl (search rules) (search rules)
     c.ends_of-a.ensures.left c.ends_of-a.ensures.right c.step.ensures c.merge-next.ensures
 
 pub returns : goal.returns

@@ -3,4 +3,4 @@ use Rattle.write_same.specs.Replay.{Retracing}
 use Rattle.write_same.proofs.replay.Given as goal
 
 abbrev pub invariant-loop-entry : goal.invariant-loop-entry
-invariant-loop-entry l = Retracing l.t l.e l.trace l.initial.pen l.entry-index l.table l.pen
+invariant-loop-entry l = Retracing l.grounds.t.now l.grounds.e.now l.grounds.trace.now l.initial.pen l.entry-index l.table l.pen

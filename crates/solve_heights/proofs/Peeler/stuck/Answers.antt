@@ -5,7 +5,7 @@ use Rattle.std.proofs.Common.{length, below_more, eqb-true}
 use native.Mathlib.Omega.{arith}
 use Rattle.base.proofs.TellLaws.{tells_yes, tells_not}
 use Rattle.store.proofs.ViewLaws.{children_length}
-use Rattle.solve_heights.proofs.OptionLaws.{not_both, some_of, none_of}
+use Rattle.solve_heights.proofs.OptionLaws.{some_of, none_of}
 use Rattle.solve_heights.proofs.SummandLaws.{nth_child, through}
 use Rattle.solve_heights.proofs.Peeler.stuck.Goals as goal
 
@@ -30,9 +30,7 @@ loop-x-preserved c =
     below_more _ _ c.loop-x.invariant
     (λ q.
     let a = some_of _ (c.is_none.ensures ∙ ap not c.if-is_none.false) in
-    not_both _ a.0
-    (sym (through c.args.table.now c.args.self.now.height (c.from.ensures ∙ w.1) c.from-in-loop-x.ensures) ∙ q)
-    a.1)
+    cc (through c.args.table.now c.args.self.now.height (c.from.ensures ∙ w.1) c.from-in-loop-x.ensures, a.1))
 
 pub returns : goal.returns
 returns c =

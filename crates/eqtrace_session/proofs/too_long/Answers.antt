@@ -1,8 +1,0 @@
--- `eqtrace_session::too_long` meets its contract.
-use mathlib.Core.List.{[]}
-use Rattle.eqtrace_session.proofs.StepLaws.{said_too_long}
-use Rattle.eqtrace_session.proofs.too_long.Goals as goal
-
-pub returns : goal.returns
-returns c =
-    said_too_long _ _ _ _ _ _ _ (c.unreadable-carried.ensures [])
