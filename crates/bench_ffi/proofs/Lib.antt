@@ -1,2 +1,3 @@
--- Laws of the loops.
+-- Laws of the loops and of the trace.
 pub mod MapLaws
+pub mod PlacedLaws

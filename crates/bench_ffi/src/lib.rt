@@ -1,29 +1,67 @@
-// The engine's parts for C and Rust, as a static library (`rt lib` in this folder): numbers, structs laid out as in C, lent arrays and
-// slices only. Each function hands on to the crate that does the work, with that crate's promise. Nobody proves of a C caller what a
-// `requires` asks: it owes it.
+// The engine's parts for C and Rust, as a static library (`rt lib` in this folder): numbers, lent arrays and slices only. Each function
+// hands on to the crate that does the work, with that crate's promise. Nobody proves of a C caller what a `requires` asks: it owes it.
 #![tactic(auto)]
 
-ghost use Rattle.std.specs.Prelude.{◌≡◌, List, length, map};
-ghost use Rattle.graph.specs.State.{State};
+ghost use Rattle.std.specs.Prelude.{◌≡◌, ◌≤◌, List, length, map, take, replicate};
+ghost use Rattle.std.specs.List.{All};
+ghost use Rattle.graph.specs.Limits.{equation_limit};
 ghost use Rattle.base.specs.Tells.{Tells};
+ghost use Rattle.store.specs.Views.{terms, equations};
 ghost use Rattle.store.specs.Shape.{Shape};
+ghost use Rattle.store.specs.declared.Terms.{Terms};
+ghost use Rattle.store.specs.declared.Equations.{Equations};
 ghost use Rattle.solve_classes.specs.Table.{Table};
 ghost use Rattle.solve_trace.specs.Nodes.{Formed};
-ghost use Rattle.solve_trace.specs.declared.Entry.{Entry};
 ghost use Rattle.solve_closure.specs.Settled.{Given};
-ghost use Rattle.bench_ffi.specs.Parts.{SettlesAs, PeelsAs, height_number, entry_numbers};
+ghost use Rattle.write_needed.specs.Entries.{Placed};
+ghost use Rattle.bench_ffi.specs.Parts.{SettlesAs, PeelsAs, height_number, entry_number, unnamed};
 
 use solve_trace::{Entry, Trace};
 use store::{Equations, Terms};
 
 mod calls; // the calls by numbers
 
+// The lent arrays as nodes. Here and below C lends each array by itself, as it keeps them.
+fn terms_of(
+    n: usize,
+    kind: &[u8; 64],
+    symbol: &[u16; 64],
+    arity: &[u8; 64],
+    child: &[u8; 256],
+) -> Terms
+    ensures { result ≡ terms n kind.now symbol.now arity.now child.now }
+{
+    Terms {
+        count: n,
+        kind: *kind,
+        symbol: *symbol,
+        arity: *arity,
+        child: *child,
+    }
+}
+
 // Whether the arrays are well-shaped.
 #[unsafe(no_mangle)]
-pub extern "C" fn ffi_shaped(t: &Terms, e: &Equations) -> bool
-    ensures { Tells (Shape t.now e.now) result }
+pub extern "C" fn ffi_shaped(
+    n: usize,
+    kind: &[u8; 64],
+    symbol: &[u16; 64],
+    arity: &[u8; 64],
+    child: &[u8; 256],
+    m: usize,
+    name: &[u16; 256],
+    left: &[u8; 256],
+    right: &[u8; 256],
+) -> bool
+    ensures { Tells (Shape (terms n kind.now symbol.now arity.now child.now) (equations m name.now left.now right.now)) result }
 {
-    store_shape::shaped(t, e)
+    let e = Equations {
+        count: m,
+        name: *name,
+        left: *left,
+        right: *right,
+    };
+    store_shape::shaped(&terms_of(n, kind, symbol, arity, child), &e)
 }
 
 // How settling ended: how many entries the trace has, and whether in a clash, of which two nodes. C has no Option.
@@ -36,35 +74,59 @@ pub struct Ending {
     pub right: usize,
 }
 
-// An entry of the trace: 0 and an equation's place, or 1 and two nodes and a place. C has no enums with values.
-fn numbers_of(e: Entry) -> [u16; 4]
-    ensures { result ≡ entry_numbers e }
+// An entry of the trace as one number: C has no enums with values.
+fn number_of(e: Entry) -> u16
+    requires { Placed e }
+    ensures { result ≡ entry_number e }
 {
     match e {
-        Entry::Equation(k) => [0, k, 0, 0],
+        Entry::Equation(k) => k,
         Entry::Children { left, right, place } => {
-            [1, u16::from(left), u16::from(right), u16::from(place)]
+            (u16::from(place) + 1) * 4096 + u16::from(left) * 64 + u16::from(right)
         }
     }
 }
 
-// The closure of the equations: the class table and the trace, and how it ended.
+// The entries, as numbers, at the front of the lent trace.
+fn put_entries(trace: &mut [u16; 64], entries: &[Entry])
+    requires few { length entries.now ≤ 64 }
+    requires placed { All Placed entries.now }
+    ensures { take (length entries.now) trace.new ≡ map entry_number entries.now }
+{
+    for (k, entry) in entries.iter().enumerate() {
+        trace[k] = number_of(*entry);
+    }
+}
+
+// The closure of the first `m` equations: the class table and the trace, and how it ended.
 #[unsafe(no_mangle)]
 pub extern "C" fn ffi_settle(
     table: &mut [u8; 64],
-    trace: &mut [[u16; 4]; 64],
-    t: &Terms,
-    e: &Equations,
+    trace: &mut [u16; 64],
+    n: usize,
+    kind: &[u8; 64],
+    symbol: &[u16; 64],
+    arity: &[u8; 64],
+    child: &[u8; 256],
+    m: usize,
+    left: &[u8; 256],
+    right: &[u8; 256],
 ) -> Ending
-    requires { Given t.now e.now }
-    ensures { SettlesAs t.now e.now table.new trace.new result }
+    requires { let g : Terms = terms n kind.now symbol.now arity.now child.now in Given g (unnamed m left.now right.now) }
+    ensures { let g : Terms = terms n kind.now symbol.now arity.now child.now in
+        SettlesAs g (unnamed m left.now right.now) table.new trace.new result }
 {
+    let t = terms_of(n, kind, symbol, arity, child);
+    let e = Equations {
+        count: m,
+        name: [0; 256],
+        left: *left,
+        right: *right,
+    };
     let mut entries = Trace::new();
-    let s = solve_closure::settle(&mut entries, t, e);
+    let s = solve_closure::settle(&mut entries, &t, &e);
     *table = s.table;
-    for (k, entry) in entries.as_slice().iter().enumerate() {
-        trace[k] = numbers_of(*entry);
-    }
+    put_entries(trace, entries.as_slice());
     let (left, right) = s.clash.unwrap_or((0, 0));
     Ending {
         steps: entries.len(),
@@ -81,14 +143,22 @@ fn height_as_number(h: Option<u8>) -> u8
     h.unwrap_or(255)
 }
 
-// The heights of a table's classes, and how many classes have none. Arrays, as C has them.
+// The heights of a table's classes, and how many classes have none.
 #[unsafe(no_mangle)]
-pub extern "C" fn ffi_peel(table: &[u8; 64], height: &mut [u8; 64], t: &Terms) -> u8
+pub extern "C" fn ffi_peel(
+    table: &[u8; 64],
+    height: &mut [u8; 64],
+    n: usize,
+    kind: &[u8; 64],
+    symbol: &[u16; 64],
+    arity: &[u8; 64],
+    child: &[u8; 256],
+) -> u8
     requires table { Table table.now }
-    requires formed { Formed t.now }
-    ensures { PeelsAs t.now table.now height.new result }
+    requires formed { let g : Terms = terms n kind.now symbol.now arity.now child.now in Formed g }
+    ensures { let g : Terms = terms n kind.now symbol.now arity.now child.now in PeelsAs g table.now height.new result }
 {
-    let h = solve_heights::peel(*table, t);
+    let h = solve_heights::peel(*table, &terms_of(n, kind, symbol, arity, child));
     for (c, x) in h.height.iter().enumerate() {
         height[c] = height_as_number(*x);
     }

@@ -1,10 +1,7 @@
 -- `bench_ffi::ffi_settle` meets its contract.
 use Rattle.std.proofs.Common.{rules}
-use Rattle.solve_trace.specs.declared.Entry.TheVariants.{Equation}
-use Rattle.bench_ffi.specs.Parts.{entry_numbers}
-use Rattle.bench_ffi.proofs.MapLaws.{map_more}
+use Rattle.bench_ffi.proofs.PlacedLaws.{settled_placed}
 use Rattle.bench_ffi.proofs.ffi_settle.Goals as goal
 
-pub loop-k-preserved : goal.loop-k-preserved
-loop-k-preserved c =
-    map_more entry_numbers c.args.trace.now c.as_slice-entry-items.result.now _ c.loop-k.k (Equation 0) _ c.loop-k.invariant c.numbers_of.ensures (search rules) (search rules)
+pub put_entries-requires-clause-placed : goal.put_entries-requires-clause-placed
+put_entries-requires-clause-placed c = settled_placed {g = c.terms_of-t.result} (rw c.terms_of-t.ensures c.requires) c.settle-s.ensures.settled
