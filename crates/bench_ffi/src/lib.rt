@@ -59,7 +59,7 @@ pub extern "C" fn ffi_settle(
     requires { Given t.now e.now }
     ensures { SettlesAs t.now e.now table.new trace.new result }
 {
-    let mut entries = Trace::new();
+    let mut entries = Trace::new(Entry::default());
     let s = solve_closure::settle(&mut entries, t, e);
     *table = s.table;
     for (k, entry) in entries.as_slice().iter().enumerate() {

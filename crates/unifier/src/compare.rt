@@ -4,13 +4,13 @@ ghost use Rattle.unifier.specs.Compare.{Compares};
 
 use super::{Outcome, Refusal, Standing, Workspace, both_below};
 use graph::BUFFER;
-use solve_trace::Trace;
+use solve_trace::{Entry, Trace};
 
 impl Workspace {
     fn stand(&self, u: u16, v: u16, proof: &mut [u8]) -> Result<Standing, Refusal>
         ensures { Compares self.now u v proof.old proof.new (outcome result self.now) }
     {
-        let mut trace = Trace::new();
+        let mut trace = Trace::new(Entry::default());
         let table = self.examined(&mut trace)?;
         if proof.len() < BUFFER {
             return Err(Refusal::ShortBuffer);
