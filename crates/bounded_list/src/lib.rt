@@ -74,7 +74,7 @@ impl<T: Copy, const N: usize> BoundedList<T, N> {
         ensures value { result ≡ length self.now.items }
         ensures fits { result ≤ N }
     {
-        self.count
+        self.as_slice().len()
     }
 
     pub fn as_slice(&self) -> &[T]
