@@ -123,7 +123,7 @@ pub extern "C" fn ffi_settle(
         left: *left,
         right: *right,
     };
-    let mut entries = Trace::new();
+    let mut entries = Trace::new(Entry::default());
     let s = solve_closure::settle(&mut entries, &t, &e);
     *table = s.table;
     put_entries(trace, entries.as_slice());

@@ -4,7 +4,7 @@ use mathlib.Core.List.{List}
 use mathlib.Core.Option.{Option, none, some}
 use Prim.Native.Nat.{ℕ}
 use Rattle.std.specs.Prelude.{Some}
-use Rattle.arrayvec.specs.ArrayVec.{ArrayVec}
+use Rattle.bounded_list.specs.Bounded.{Bounded, holding}
 use Rattle.graph.specs.State.{functor}
 use Rattle.graph.specs.Book as book
 use Rattle.unifier.specs.Replies.{node_number}
@@ -19,20 +19,20 @@ use Rattle.eqtrace_carry.specs.declared.Carried.{Carried}
 use Rattle.eqtrace_carry.proofs.FiveLaws.{five_answers}
 
 -- a functor node's first five children are handed on
-record Handed (o : Option Order) (f : ℕ) (children : ArrayVec ℕ) : Type 0 where
+record Handed (o : Option Order) (f : ℕ) (children : Bounded ℕ) : Type 0 where
   pub cs : List ℕ
   pub is : o ≡ some (order.functor f cs)
   pub five : children.items ≡ first_five cs
 
-handed : (o : Option Order) (f : ℕ) (children : ArrayVec ℕ) → order_found o ≡ Some (code.Functor f children) → Handed o f children
+handed : (o : Option Order) (f : ℕ) (children : Bounded ℕ) → order_found o ≡ Some (code.Functor f children) → Handed o f children
 handed none f l e = cc
 handed (some order.variable) f l e = cc
-handed (some (order.functor g cs)) f l e = let q : g ≡ f = cc in let p : l.items ≡ first_five cs = ap (λ (v : ArrayVec ℕ). v.items) (cc) in record { cs = cs; is = ap (λ (x : ℕ). some (order.functor x cs)) q; five = p }
+handed (some (order.functor g cs)) f l e = let q : g ≡ f = cc in let h : l ≡ holding (first_five cs) 0 = cc in let p : l.items ≡ first_five cs = ap (λ (v : Bounded ℕ). v.items) h in record { cs = cs; is = ap (λ (x : ℕ). some (order.functor x cs)) q; five = p }
 handed (some (order.equate n u v)) f l e = cc
 handed (some (order.withdraw n)) f l e = cc
 handed (some (order.query u v)) f l e = cc
 
-pub carries_functor : (o : Option Order) (f : ℕ) (children : ArrayVec ℕ) → order_found o ≡ Some (code.Functor f children)
+pub carries_functor : (o : Option Order) (f : ℕ) (children : Bounded ℕ) → order_found o ≡ Some (code.Functor f children)
     → (w : Workspace) (i : ℕ) (before after old new : List ℕ) (r : Carried) → Carries w i (some (order.functor f children.items)) before after old new r → Carries w i o before after old new r
 carries_functor o f children e w i before after old new r C =
     let h = handed o f children e in

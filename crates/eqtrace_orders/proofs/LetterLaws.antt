@@ -4,7 +4,7 @@ use Rattle.std.specs.Prelude.{Some, None}
 use Rattle.std.proofs.Math.Option.{Option, none, some}
 use Rattle.std.proofs.lemmas.List.{length-take, take-take, take_rest}
 use borrow.Author.Tests.{ne_eqb, eqb-true}
-use Rattle.arrayvec.specs.ArrayVec.{ArrayVec}
+use Rattle.bounded_list.specs.Bounded.{Bounded, holding}
 use Rattle.graph.specs.Lines.{try}
 use Rattle.eqtrace_orders.specs.Grammar.{on_first, split, numbers_of, by_letter, words_as, order_of, functor}
 use Rattle.eqtrace_orders.specs.declared.Order.TheVariants.{Functor}
@@ -62,7 +62,7 @@ sixth x (a ∷ (b ∷ (c ∷ (d ∷ ns)))) = go (eqb x 86) (eqb x 70) (eqb x 69)
         → order_found (cond v none (cond f (some (functor a (b ∷ (c ∷ (d ∷ take 2 ns))))) (cond e none (cond w none (cond q none none)))))
         ≡ order_found (cond v none (cond f (some (functor a (b ∷ (c ∷ (d ∷ ns))))) (cond e none (cond w none (cond q none none)))))
     go true f e w q = refl
-    go false true e w q = ap (λ (l : List ℕ). Some (Functor a (record { items = b ∷ (c ∷ (d ∷ l)) }))) (take_two ns)
+    go false true e w q = ap (λ (l : List ℕ). Some (Functor a (holding (b ∷ (c ∷ (d ∷ l))) 0))) (take_two ns)
     go false false true w q = refl
     go false false false true q = refl
     go false false false false true = refl
@@ -100,11 +100,12 @@ module _ (l : List ℕ) (n : 2 ≤ length l) (e : get_or l 1 0 ≡ 32) where
       go none q = refl
       go (some ns) q = cc
 
-  pub words_read : (v : ArrayVec ℕ) → words_found (take (length l - 2) (drop 2 l)) ≡ Some v → (length v.items ≤ 6) × Parses l (order_found (by_letter (get_or l 0 0) v.items))
+  pub words_read : (v : Bounded ℕ) → words_found (take (length l - 2) (drop 2 l)) ≡ Some v → (length v.items ≤ 6) × Parses l (order_found (by_letter (get_or l 0 0) v.items))
   words_read v q = rw (spaced_line l n e) (go (numbers_of (split 32 (drop 2 l))) (rw part at q))
     where
       go : (o : Option (List ℕ)) → six_of o ≡ Some v → (length v.items ≤ 6) × (order_found (by_letter (get_or l 0 0) v.items) ≡ order_found (try o (by_letter (get_or l 0 0))))
       go none q = cc
       go (some all) q =
-          let z : v.items ≡ take 6 all = ap (λ (x : ArrayVec ℕ). x.items) (cc) in
+          let y : v ≡ holding (take 6 all) 0 = cc in
+          let z : v.items ≡ take 6 all = ap (λ (x : Bounded ℕ). x.items) y in
           rw z (few 6 all, sixth (get_or l 0 0) all)

@@ -4,7 +4,6 @@ use Rattle.std.specs.Prelude.{◌↔◌, Some, None, Result, Ok, Err, IsOk, OnOk
 use Rattle.std.specs.List.{slice_split, onto_first}
 use Rattle.std.proofs.Math.Option as math
 use Rattle.std.proofs.lemmas.List.{take_all, take-append-le, length-append, at_drop_more, at_drop_all}
-use Rattle.arrayvec.specs.ArrayVec.{ArrayVec}
 use Rattle.graph.specs.Lines.{try}
 use Rattle.eqtrace_orders.specs.Grammar.{on_first, split, number_in, numbers_of}
 use Rattle.eqtrace_orders.specs.Parse.{handed_on}
@@ -37,12 +36,6 @@ found_none (math.some x) e = cc
 pub found_some : (o : math.Option ℕ) (x : ℕ) → handed_on o ≡ Some x → o ≡ math.some x
 found_some math.none x e = cc
 found_some (math.some y) x e = cc
-
--- a number put at the end, or dropped behind the sixth
-pub kept_more : {E : Type 0} (r : Result (Unit {0}) E) (v w : ArrayVec ℕ) (x : ℕ) → IsOk r ↔ (length v.items < 6) → OnOk r (w.items ≡ v.items ++ x ∷ []) → OnErr r (w ≡ v) → OnErr r (length v.items ≡ 6)
-    → w.items ≡ take 6 (v.items ++ x ∷ [])
-kept_more (Ok u) v w x few ok err full = ok ∙ sym (take_all 6 (v.items ++ x ∷ []) (omega (arith, few.0 refl, length-append v.items (x ∷ []))))
-kept_more (Err e) v w x few ok err full = ap (λ (u : ArrayVec ℕ). u.items) err ∙ sym (take-append-le 6 v.items (x ∷ []) (omega (arith, full)) ∙ take_all 6 v.items (omega (arith, full)))
 
 -- the first k words are numbers, of which the first six are kept
 pub record Reading (words : List (List ℕ)) (k : ℕ) (kept : List ℕ) : Type 0 where

@@ -8,7 +8,7 @@
 --   Parses       the parser's answer for a line
 use Rattle.std.specs.Prelude.{◌≡◌, List, ℕ, take, Option, Some, None}
 use Rattle.std.proofs.Math.Option as math
-use Rattle.arrayvec.specs.ArrayVec.{ArrayVec}
+use Rattle.bounded_list.specs.Bounded.{Bounded, holding}
 use Rattle.eqtrace_orders.specs.Grammar as grammar
 use Rattle.eqtrace_orders.specs.Grammar.{split, numbers_of, order_of}
 use Rattle.eqtrace_orders.specs.declared.Order.{Order}
@@ -23,7 +23,7 @@ first_five cs = take 5 cs
 
 abbrev pub as_code : grammar.Order → Order
 as_code grammar.variable = Variable
-as_code (grammar.functor f cs) = Functor f (record { items = first_five cs })
+as_code (grammar.functor f cs) = Functor f (holding (first_five cs) 0)
 as_code (grammar.equate n u v) = Equate n u v
 as_code (grammar.withdraw n) = Withdraw n
 as_code (grammar.query u v) = Query u v
@@ -32,11 +32,11 @@ abbrev pub order_found : math.Option grammar.Order → Option Order
 order_found math.none = None
 order_found (math.some o) = Some (as_code o)
 
-abbrev pub six_of : math.Option (List ℕ) → Option (ArrayVec ℕ)
+abbrev pub six_of : math.Option (List ℕ) → Option (Bounded ℕ)
 six_of math.none = None
-six_of (math.some ns) = Some (record { items = take 6 ns })
+six_of (math.some ns) = Some (holding (take 6 ns) 0)
 
-abbrev pub words_found : List ℕ → Option (ArrayVec ℕ)
+abbrev pub words_found : List ℕ → Option (Bounded ℕ)
 words_found words = six_of (numbers_of (split 32 words))
 
 abbrev pub Parses : List ℕ → Option Order → Type 0

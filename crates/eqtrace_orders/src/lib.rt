@@ -5,12 +5,12 @@ ghost use Rattle.std.specs.Prelude.{◌≡◌, [], ◌≤◌, length};
 ghost use Rattle.eqtrace_orders.specs.Grammar.{digits_from, number_in, by_letter};
 ghost use Rattle.eqtrace_orders.specs.Parse.{handed_on, words_found, order_found, Parses};
 
-use arrayvec::ArrayVec;
+use bounded_list::BoundedList;
 
-pub type Numbers = ArrayVec<u16, 6>;
+pub type Numbers = BoundedList<u16, 6>;
 
 // An order. Five children are enough to be refused, so the first five are handed on.
-#[derive(Drop)]
+#[derive(Clone, Copy)]
 pub enum Order {
     Variable,
     Functor { symbol: u16, children: Numbers },
@@ -48,9 +48,9 @@ fn number(word: &[u8]) -> Option<u16>
 fn collect(words: &[u8]) -> Option<Numbers>
     ensures { result ≡ words_found words.now }
 {
-    let mut numbers = Numbers::new();
+    let mut numbers = Numbers::new(0);
     for word in words.split(|b| *b == b' ') {
-        let _ = numbers.try_push(number(word)?);
+        numbers.push_if_room(number(word)?);
     }
     Some(numbers)
 }
@@ -64,7 +64,7 @@ fn by_letter(letter: u8, numbers: &[u16]) -> Option<Order>
         (b'V', []) => Some(Order::Variable),
         (b'F', [symbol, children @ ..]) => Some(Order::Functor {
             symbol: *symbol,
-            children: Numbers::try_from(children).ok()?,
+            children: Numbers::from_slice(0, children)?,
         }),
         (b'E', [name, left, right]) => Some(Order::Equate {
             name: *name,

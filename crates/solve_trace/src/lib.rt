@@ -10,7 +10,7 @@ ghost use Rattle.solve_trace.specs.declared.Entry.TheVariants.{Equation};
 ghost use Rattle.solve_trace.specs.Nodes.{EquationEnds};
 ghost use Rattle.solve_trace.specs.Steps.{TraceFits, Joins, Gives, PairsJoined, Places};
 
-use arrayvec::ArrayVec;
+use bounded_list::BoundedList;
 use store::{Equations, Terms};
 
 // Why two nodes are joined: the held equation at that place, or two nodes of one class and a place of their children, counted from 0.
@@ -20,7 +20,7 @@ pub enum Entry {
     Children { left: u8, right: u8, place: u8 },
 }
 
-// What the unused places of a trace hold. By hand, since a derive wants a variant without values.
+// The blank of a trace, which its unused places hold. By hand, since a derive wants a variant without values.
 impl Default for Entry {
     fn default() -> Entry
         ensures { result ≡ Equation 0 }
@@ -30,7 +30,7 @@ impl Default for Entry {
 }
 
 // The entries of a table's merges, in order: a merge leaves one class fewer, so 64 are enough.
-pub type Trace = ArrayVec<Entry, 64>;
+pub type Trace = BoundedList<Entry, 64>;
 
 // The classes of `x` and `y` become one; where they were two, the trace gets the entry `reason`.
 pub fn join(table: &mut [u8; 64], trace: &mut Trace, x: u8, y: u8, reason: Entry)

@@ -1,7 +1,7 @@
 // The shorter of two: which list, its bytes, and each refusal.
 use super::replies::{choose, chosen};
 use super::{proved, sample};
-use arrayvec::ArrayVec;
+use bounded_list::BoundedList;
 use proof_shorter::{List, NoChoice};
 use refusals::Refusal;
 use std::io;
@@ -10,13 +10,15 @@ use test_tools::replies::Answer;
 use unifier::Workspace;
 
 /// A proof with one line more: `self` of a node before its last line, which no line cites.
-pub fn longer(lines: &[u8], node: u8) -> Option<ArrayVec<u8, 4096>> {
+pub fn longer(lines: &[u8], node: u8) -> Option<BoundedList<u8, 4096>> {
     let (first, last) = lines.split_at_checked(lines.len().checked_sub(8)?)?;
-    let mut more = ArrayVec::new();
-    more.try_extend_from_slice(first).ok()?;
-    more.try_extend_from_slice(&[3, 0, 0, node, 0, 0, 0, 0])
-        .ok()?;
-    more.try_extend_from_slice(last).ok()?;
+    if lines.len() > 4088 {
+        return None;
+    }
+    let mut more = BoundedList::new(0);
+    more.extend_from_slice(first);
+    more.extend_from_slice(&[3, 0, 0, node, 0, 0, 0, 0]);
+    more.extend_from_slice(last);
     Some(more)
 }
 

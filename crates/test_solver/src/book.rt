@@ -1,21 +1,23 @@
 // The test's own book: the nodes that were declared and the equations that are held, each in the order taken.
 ghost use Rattle.std.specs.Prelude.{◌≤◌, length};
 
-use arrayvec::ArrayVec;
+use super::list::List;
 
 /// A symbol and its children, at most four.
-#[derive(PartialEq, Eq, Debug, Drop)]
+#[derive(Clone, Copy)]
 pub struct Functor {
     pub symbol: u16,
-    children: ArrayVec<u16, 4>,
+    children: List<u16, 4>,
 }
 
 impl Functor {
     pub fn new(symbol: u16, children: &[u16]) -> Functor
         requires { length children.now ≤ 4 }
     {
-        let mut four = ArrayVec::new();
-        let _ = four.try_extend_from_slice(children);
+        let mut four = List::new();
+        for child in children {
+            four.push(*child);
+        }
         Functor {
             symbol,
             children: four,
@@ -35,7 +37,7 @@ impl Functor {
     }
 }
 
-#[derive(PartialEq, Eq, Debug, Default, Drop)]
+#[derive(Clone, Copy, Default)]
 pub enum Node {
     #[default]
     Variable,
@@ -59,17 +61,17 @@ pub struct Equation {
     pub right: u16,
 }
 
-#[derive(Drop)]
+#[derive(Clone, Copy)]
 pub struct Book {
-    pub nodes: ArrayVec<Node, 64>,
-    pub held: ArrayVec<Equation, 256>,
+    pub nodes: List<Node, 64>,
+    pub held: List<Equation, 256>,
 }
 
 impl Book {
     pub fn new() -> Book {
         Book {
-            nodes: ArrayVec::new(),
-            held: ArrayVec::new(),
+            nodes: List::new(),
+            held: List::new(),
         }
     }
 
@@ -80,18 +82,18 @@ impl Book {
 
     /// A node more, unless there are 64.
     pub fn declare(&mut self, node: Node) {
-        let _ = self.nodes.try_push(node);
+        self.nodes.push(node);
     }
 
     /// An equation more, unless there are 256.
     pub fn hold(&mut self, e: Equation) {
-        let _ = self.held.try_push(e);
+        self.held.push(e);
     }
 
     /// Takes out the equation of that name, if there is one.
     pub fn strike(&mut self, name: u16) -> Option<Equation> {
         let k = self.held.as_slice().iter().position(|e| e.name == name)?;
-        self.held.pop_at(k)
+        self.held.take_out(k)
     }
 
     pub fn find(&self, name: u16) -> Option<Equation> {

@@ -1,6 +1,6 @@
 // The other checker.
 use super::book::{Book, Equation};
-use arrayvec::ArrayVec;
+use super::list::List;
 
 #[derive(Clone, Copy, PartialEq, Eq, Debug, Default)]
 pub enum Relation {
@@ -161,13 +161,13 @@ fn knows(book: &Book, x: Question) -> bool {
 /// What each line of a proof claims, up to the first that breaks its rule.
 #[derive(Drop)]
 pub struct Claims {
-    lines: ArrayVec<Claim, 8192>,
+    lines: List<Claim, 8192>,
 }
 
 impl Claims {
     pub fn none() -> Claims {
         Claims {
-            lines: ArrayVec::new(),
+            lines: List::new(),
         }
     }
 
@@ -197,7 +197,9 @@ impl Claims {
         for (i, bytes) in (0u16..8192).zip(proof.chunks_exact(8)) {
             let line = Line::read(bytes).ok_or(i)?;
             let claim = self.claimed(book, offer, line).ok_or(i)?;
-            self.lines.try_push(claim).map_err(|_| i)?;
+            if !self.lines.push(claim) {
+                return Err(i);
+            }
         }
         Ok(())
     }

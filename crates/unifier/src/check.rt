@@ -8,7 +8,7 @@ ghost use Rattle.unifier.specs.Check.{goal_below, Checks};
 ghost use Rattle.unifier.specs.Inner.{Questioned};
 
 use super::{GoalAsked, Offer, Outcome, Refusal, Workspace, both_below};
-use solve_trace::Trace;
+use solve_trace::{Entry, Trace};
 
 fn offer_below(offer: Option<Offer>, n: usize) -> bool
     ensures { result ≡ offer_below n (offer_of offer) }
@@ -50,7 +50,7 @@ impl Workspace {
     fn judge(&self, offer: Option<Offer>, lines: &[u8], goal: GoalAsked) -> Result<(), Refusal>
         ensures { Checks self.now (offer_of offer) (goal_of goal) lines.now (outcome result self.now) }
     {
-        self.examined(&mut Trace::new())?;
+        self.examined(&mut Trace::new(Entry::default()))?;
         self.refusal(offer, goal)?;
         proof_check::check(&self.terms, &self.equations, offer, lines, goal)
     }

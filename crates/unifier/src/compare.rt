@@ -4,13 +4,13 @@ ghost use Rattle.unifier.specs.Compare.{Compares};
 
 use super::{Outcome, Refusal, Standing, Workspace, both_below};
 use graph::BUFFER;
-use solve_trace::Trace;
+use solve_trace::{Entry, Trace};
 
 impl Workspace {
     fn stand(&self, u: u16, v: u16, proof: &mut [u8]) -> Result<Standing, Refusal>
         ensures { Compares self.now u v proof.old proof.new (outcome result self.now) }
     {
-        let mut trace = Trace::new();
+        let mut trace = Trace::new(Entry::default());
         let table = self.examined(&mut trace)?;
         if proof.len() < BUFFER {
             return Err(Refusal::ShortBuffer);
@@ -19,7 +19,7 @@ impl Workspace {
             return Err(Refusal::UnknownNode);
         }
         let (x, y) = (u as u8, v as u8);
-        let s = unifier_respond::stand(proof, &self.terms, &self.equations, table, &trace, x, y);
+        let s = unifier_respond::stand(proof, &self.terms, &self.equations, table, trace.as_slice(), x, y);
         Ok(s)
     }
 

@@ -84,13 +84,13 @@ impl Workspace {
     fn reply_to(&self, offer: Offer, proof: &mut [u8]) -> Result<(), Refusal>
         ensures { Settles self.now (equation_in offer) proof.old proof.new result }
     {
-        let mut trace = Trace::new();
+        let mut trace = Trace::new(Entry::default());
         let table = self.examined(&mut trace)?;
         self.early(offer, proof.len())?;
         let x = offer.left as u8;
         let y = offer.right as u8;
         let o = solve::extend(table, &mut trace, &self.terms, self.equations.count, x, y);
-        self.answer(&o, &trace, offer, proof)
+        self.answer(&o, trace.as_slice(), offer, proof)
     }
 
     fn hold(&mut self, offer: Offer, proof: &mut [u8]) -> Result<(), Refusal>

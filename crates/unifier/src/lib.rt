@@ -22,7 +22,7 @@ pub use proof_check::GoalAsked; // what check takes
 pub use proof_rules::Offer;
 pub use refusals::Refusal;
 pub use solve_classes::Figures; // what class_of replies
-use solve_trace::Trace;
+use solve_trace::{Entry, Trace};
 use store::{Equations, Terms};
 pub use unifier_respond::Standing; // what compare replies
 
@@ -77,7 +77,7 @@ impl Workspace {
     fn put_variable(&mut self) -> Result<u8, Refusal>
         ensures { Answers node_number self.old (book.declare variable) (outcome result self.new) }
     {
-        self.examined(&mut Trace::new())?;
+        self.examined(&mut Trace::new(Entry::default()))?;
         let n = self.terms.count;
         if NODES <= n {
             return Err(Refusal::NodesFull);
@@ -100,7 +100,7 @@ impl Workspace {
     fn put_functor(&mut self, symbol: u16, children: &[u16]) -> Result<u8, Refusal>
         ensures { Answers node_number self.old (book.declare (functor symbol children.now)) (outcome result self.new) }
     {
-        self.examined(&mut Trace::new())?;
+        self.examined(&mut Trace::new(Entry::default()))?;
         let n = self.terms.count;
         if NODES <= n {
             return Err(Refusal::NodesFull);
@@ -132,7 +132,7 @@ impl Workspace {
     fn remove(&mut self, name: u16) -> Result<(), Refusal>
         ensures { Answers is_gone self.old (book.withdraw name) (outcome result self.new) }
     {
-        self.examined(&mut Trace::new())?;
+        self.examined(&mut Trace::new(Entry::default()))?;
         if self.equations.remove(name) {
             Ok(())
         } else {
@@ -154,7 +154,7 @@ impl Workspace {
     fn class_in(&self, u: u16) -> Result<Figures, Refusal>
         ensures { Classifies self.now u (outcome result self.now) }
     {
-        let table = self.examined(&mut Trace::new())?;
+        let table = self.examined(&mut Trace::new(Entry::default()))?;
         let x = usize::from(u);
         if self.terms.count <= x {
             return Err(Refusal::UnknownNode);

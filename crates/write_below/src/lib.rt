@@ -10,7 +10,7 @@ ghost use Rattle.write_below.specs.declared.Rung.{Rung};
 ghost use Rattle.write_below.specs.Steps.{pair_of, upper, OnNodes, AllOnNodes, Leads, Top};
 ghost use Rattle.write_below.specs.Chain.{Descended, Climbed, Arrived, Ascended, Lowered, Circled};
 
-use arrayvec::ArrayVec;
+use bounded_list::BoundedList;
 use proof_lines::Fields;
 use solve_reach::{Down, Search};
 use write_runs::Pen;
@@ -23,36 +23,37 @@ struct Rung {
     low: u8,
 }
 
-// The way up from v to u's class, its lowest rung first: at most 64, since their levels fall. No struct of table, search and u:
+// The rungs of a way, its lowest first: at most 64, since their levels fall.
+type Way = BoundedList<Rung, 64>;
+
+// The way up from v to u's class is put into an empty way: handed on by value it is copied. No struct of table, search and u:
 // only this function looks into them, the others hand them on, and `explain_cycle` goes on from another node than u.
-fn way_up(table: [u8; 64], search: &Search, u: u8, v: u8) -> ArrayVec<Rung, 64>
+fn way_up(way: &mut Way, table: [u8; 64], search: &Search, u: u8, v: u8)
+    requires empty { way.old.items ≡ [] }
     requires u_bound { (u < 64) × (v < 64) }
     requires ways { Ways table search.now u × Reaches table search.now v }
     requires table { Table table }
-    ensures { Leads table search.now u v result.items }
+    ensures { Leads table search.now u v way.new.items }
 {
-    let mut way = ArrayVec::new();
     let mut low = v;
     while let Some(down) = search.reached[usize::from(table[usize::from(low)])] {
         way.push(Rung { down, low });
         low = down.parent;
         if table[usize::from(low)] == table[usize::from(u)] {
-            return way;
+            return;
         }
     }
-    way
 }
 
-// The two nodes of one class at the lower end of each step. In a loop: `collect` asks for an allocator, and `extend` gives a `Result`.
-fn pairs_of(steps: &[Rung]) -> ArrayVec<(u8, u8), 64>
+// The two nodes of one class at the lower end of each step are put into an empty list. In a loop: `collect` asks for an allocator.
+fn put_pairs(pairs: &mut BoundedList<(u8, u8), 64>, steps: &[Rung])
+    requires empty { pairs.old.items ≡ [] }
     requires few_steps { length steps.now ≤ 64 }
-    ensures { result.items ≡ map pair_of steps.now }
+    ensures { pairs.new.items ≡ map pair_of steps.now }
 {
-    let mut pairs = ArrayVec::new();
     for step in steps {
         pairs.push((step.down.into, step.low));
     }
-    pairs
 }
 
 // The node at the upper end of a way.
@@ -70,7 +71,9 @@ fn top(table: [u8; 64], search: &Search, u: u8) -> u8
     requires table { Table table }
     ensures { Top table search.now u result }
 {
-    top_of(way_up(table, search, u, u).as_slice())
+    let mut way = Way::new(Rung::default());
+    way_up(&mut way, table, search, u, u);
+    top_of(way.as_slice())
 }
 
 // The step's parent below its low node, in one line or four.
@@ -152,9 +155,11 @@ pub fn explain_below(
     requires table { Table table }
     ensures { Lowered grounds.now.t.now grounds.now.e.now grounds.now.trace.now table search.now buf.old u v buf.new result }
 {
-    let way = way_up(table, search, u, v);
+    let mut way = Way::new(Rung::default());
+    way_up(&mut way, table, search, u, v);
     let steps = way.as_slice();
-    let pairs = pairs_of(steps);
+    let mut pairs = BoundedList::new((0, 0));
+    put_pairs(&mut pairs, steps);
     let top = top_of(steps);
     let mut pen = write_same::prepare(buf, grounds, u, top, pairs.as_slice());
     ascend(&mut pen, steps, u);

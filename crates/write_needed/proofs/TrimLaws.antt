@@ -79,15 +79,15 @@ end_all : (w : List Entry) (k : ℕ) → slice_end w k ≡ drop (k + 1) w
 end_all w k = take_all (length w - (k + 1)) (drop (k + 1) w) (omega (arith, length-drop (k + 1) w))
 
 module _ {g : Terms} {q : Equations} {es : List Entry} {u v : ℕ} {ps : List (ℕ × ℕ)} where
-  pub trimmed_none : {few : List Entry} → few ≡ es → (length es ≤ length few) × Trimmed g q es u v ps few
-  trimmed_none f = rw f (omega arith, record { less = omega arith; among = among_same es; joins = λ s D J. J })
+  pub trimmed_none : Trimmed g q es u v ps es
+  trimmed_none = record { less = omega arith; among = among_same es; joins = λ s D J. J }
 
-  -- w and z are what is kept, as slices
-  module _ {few : List Entry} (w z : List Entry) (k : ℕ) (T : Trimmed g q es u v ps few) (e : w ≡ few) (f : z ≡ few) where
-    pub trimmed_more : {less : List Entry} → k < length few → less ≡ remove few k → Rejoins g q (take k w ++ slice_end z k) u v ps
+  -- w is what is kept, as a slice
+  module _ {few : List Entry} (w : List Entry) (k : ℕ) (T : Trimmed g q es u v ps few) (e : w ≡ few) where
+    pub trimmed_more : {less : List Entry} → k < length few → less ≡ remove few k → Rejoins g q (take k w ++ slice_end w k) u v ps
         → (k ≤ length less) × Trimmed g q es u v ps less
     trimmed_more {less} h l R =
-        let S : Rejoins g q (take k few ++ drop (k + 1) few) u v ps = rw (e, f, end_all few k) at R in
+        let S : Rejoins g q (take k few ++ drop (k + 1) few) u v ps = rw (e, end_all few k) at R in
         let B = among_all (Contains es) (take k few ++ drop (k + 1) few) few (among_but few k) T.among in
         rw (l, ← add-one k) (
           omega (arith, length-append (take k few) (drop (k + 1) few), length-take-le k few),
@@ -99,7 +99,7 @@ module _ {g : Terms} {q : Equations} {es : List Entry} {u v : ℕ} {ps : List (�
         )
 
     -- and the entries on both sides of it are in range
-    pub parts_in_range : AllInRange g q es → AllInRange g q (take k w) × AllInRange g q (slice_end z k)
+    pub parts_in_range : AllInRange g q es → AllInRange g q (take k w) × AllInRange g q (slice_end w k)
     parts_in_range R =
         let F = among_all (InRange g q) few es T.among R in
-        rw (e, f, end_all few k) (All-take (InRange g q) k few F, All-drop (InRange g q) (k + 1) few F)
+        rw (e, end_all few k) (All-take (InRange g q) k few F, All-drop (InRange g q) (k + 1) few F)

@@ -1,7 +1,7 @@
 // The entries of a trace that a goal needs.
 #![tactic(auto)]
 
-ghost use Rattle.std.specs.Prelude.{◌≡◌, true, ◌++◌, ◌+◌, ◌≤◌, ◌<◌, length, IfSome};
+ghost use Rattle.std.specs.Prelude.{◌≡◌, true, ◌++◌, ◌<◌, IfSome};
 ghost use Rattle.solve_classes.specs.Table.{Table};
 ghost use Rattle.write_needed.specs.Entries.{left_end, right_end, Placed, AllInRange, Together};
 ghost use Rattle.write_needed.specs.Trim.{NodePairs, PairsTogether, Extended, Rejoins, Trimmed};
@@ -90,30 +90,19 @@ fn joins(
     table[usize::from(u)] == table[usize::from(v)] && paired(&table, pairs)
 }
 
-// A trace of the entries.
-fn traced(entries: &[Entry]) -> Trace
-    requires { length entries.now ≤ 64 }
-    ensures { result.items ≡ entries.now }
-{
-    let mut trace = Trace::new();
-    let _ = trace.try_extend_from_slice(entries);
-    trace
-}
-
-// Entries are dropped, the last first, while the rest still join u and v, and each pair. No struct of `t`, `e` and entries in range: `joins`
-// looks at the entries before and behind each one that is tried, so two structs would be made, and their fact proved, for each try.
-pub fn trim(trace: &[Entry], t: &Terms, e: &Equations, u: u8, v: u8, pairs: &[(u8, u8)]) -> Trace
-    requires few { length trace.now ≤ 64 }
-    requires in_range { AllInRange t.now e.now trace.now }
+// Entries are dropped, the last first, while the rest still join u and v, and each pair. In place: a trace handed on by value is copied.
+// No struct of `t`, `e` and entries in range: `joins` looks at the entries before and behind each one that is tried, so two structs
+// would be made, and their fact proved, for each try.
+pub fn trim(trace: &mut Trace, t: &Terms, e: &Equations, u: u8, v: u8, pairs: &[(u8, u8)])
+    requires in_range { AllInRange t.now e.now trace.old.items }
     requires u_bound { (u < 64) × (v < 64) }
     requires pairs { NodePairs pairs.now }
-    ensures { Trimmed t.now e.now trace.now u v pairs.now result.items }
+    ensures { Trimmed t.now e.now trace.old.items u v pairs.now trace.new.items }
 {
-    let mut kept = traced(trace);
     for k in (0..trace.len()).rev() {
+        let kept = trace.as_slice();
         if joins(&kept[..k], &kept[k + 1..], t, e, u, v, pairs) {
-            kept.remove(k);
+            trace.remove(k);
         }
     }
-    kept
 }

@@ -10,7 +10,7 @@ ghost use Rattle.write_needed.specs.Trim.{NodePairs};
 ghost use Rattle.write_same.specs.Replay.{ReasonWritten, EntryReplayed, Retraced, Prepared, Explained};
 
 use proof_lines::Fields;
-use solve_trace::Entry;
+use solve_trace::{Entry, Trace};
 use store::{Equations, Terms};
 use write_runs::Pen;
 
@@ -83,14 +83,16 @@ pub fn prepare<'a>(
     ensures prepared { Prepared grounds.now.t.now grounds.now.e.now grounds.now.trace.now buf.old u v pairs.now result }
 {
     let Grounds { t, e, trace } = *grounds;
-    let needed = write_needed::trim(trace, t, e, u, v, pairs);
+    let mut needed = Trace::new(Entry::default());
+    needed.extend_from_slice(trace);
+    write_needed::trim(&mut needed, t, e, u, v, pairs);
     let mut pen = Pen::start(buf, t.count);
     replay(
         &mut pen,
         &Grounds {
             t,
             e,
-            trace: &needed,
+            trace: needed.as_slice(),
         },
     );
     pen

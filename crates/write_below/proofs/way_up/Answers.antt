@@ -7,9 +7,9 @@ use Rattle.write_below.proofs.way_up.Goals as goal
 pub returns-then-table-from : goal.returns-then-table-from
 returns-then-table-from c =
     let e = c.from-in-loop-down.ensures ∙ ap (class c.args.table) c.from.ensures in
-    rw c.push.ensures.items (way_there c.requires.table c.requires.ways.0 c.loop-down.invariant (rw e at c.in-Some.is) (rw (c.from-in-Some.ensures, c.from-in-Some-2.ensures) at c.if-table-from.true))
+    rw c.push.ensures (way_there c.requires.table c.requires.ways.0 c.loop-down.invariant (rw e at c.in-Some.is) (rw (c.from-in-Some.ensures, c.from-in-Some-2.ensures) at c.if-table-from.true))
 
 pub loop-down-preserved : goal.loop-down-preserved
 loop-down-preserved c =
     let e = c.from-in-loop-down.ensures ∙ ap (class c.args.table) c.from.ensures in
-    rw c.push.ensures.items (going_more c.requires.table c.requires.ways.0 c.loop-down.invariant (rw e at c.in-Some.is) (rw (c.from-in-Some.ensures, c.from-in-Some-2.ensures) at c.if-table-from.false))
+    rw c.push.ensures (going_more c.requires.table c.requires.ways.0 c.loop-down.invariant (rw e at c.in-Some.is) (rw (c.from-in-Some.ensures, c.from-in-Some-2.ensures) at c.if-table-from.false))

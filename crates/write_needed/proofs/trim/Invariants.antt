@@ -4,4 +4,4 @@ use Rattle.write_needed.specs.Trim.{Trimmed}
 use Rattle.write_needed.proofs.trim.Given as goal
 
 abbrev pub invariant-loop-k : goal.invariant-loop-k
-invariant-loop-k l = (l.k ≤ length l.kept.items) × Trimmed l.t l.e l.trace l.u l.v l.pairs l.kept.items
+invariant-loop-k l = (l.k ≤ length l.trace.items) × Trimmed l.t l.e l.initial.trace.items l.u l.v l.pairs l.trace.items

@@ -32,4 +32,4 @@ pub answer-requires : goal.answer-requires
 answer-requires c =
     let a = c.args in
     let o = offering_now a.self.now (equation_in a.offer) _ _ _ _ _ c.in_ok-table.was c.examined.ensures c.in_ok-early.was c.early.ensures in
-    rw c.deref.ensures.0 (refuted a.self.now (equation_in a.offer) a.proof.now _ _ o _ _ c.extend-o.ensures.left_over c.extend-o.ensures.decided)
+    rw c.as_slice.ensures.value (refuted a.self.now (equation_in a.offer) a.proof.now _ _ o _ _ c.extend-o.ensures.left_over c.extend-o.ensures.decided)

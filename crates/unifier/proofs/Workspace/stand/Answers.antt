@@ -14,7 +14,7 @@ pub stand-s-requires-clause-known : goal.stand-s-requires-clause-known
 stand-s-requires-clause-known c =
     let a = c.args in
     let s = examined_well _ _ _ _ c.in_ok-table.was c.examined.ensures in
-    rw c.deref.ensures.0 (known a.self.now a.u a.v a.proof.now _ _ s (sym c.both_below.ensures ∙ c.if-not-both_below.false))
+    rw c.as_slice.ensures.value (known a.self.now a.u a.v a.proof.now _ _ s (sym c.both_below.ensures ∙ c.if-not-both_below.false))
 
 pub returns : goal.returns
 returns c =

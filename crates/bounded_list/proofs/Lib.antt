@@ -1,0 +1,2 @@
+-- Laws of the cells of a bounded list.
+pub mod CellLaws

@@ -1,0 +1,2 @@
+-- What a contract sees of a bounded list.
+pub mod Bounded
