@@ -11,7 +11,7 @@ use Rattle.eqtrace_session.proofs.step.Goals as goal
 pub order-requires : goal.order-requires
 order-requires c =
     let b = within _ _ _ left.Order (sym c.left.ensures ∙ c.in-Order.is) false refl in
-    (b.inside, ltb-false _ _ b.long, b.number)
+    (b.inside, ltb-false _ _ b.long, b.number, search rules, search rules, search rules)
 
 pub returns-in-Nothing : goal.returns-in-Nothing
 returns-in-Nothing c =
@@ -23,4 +23,4 @@ returns-in-TooLong c =
 
 pub returns-in-Order : goal.returns-in-Order
 returns-in-Order c =
-    steps_at _ _ _ _ _ _ _ left.Order (sym c.in-Order.is ∙ c.left.ensures) c.order.ensures c.args.lent.now.sizes.0 c.order.new.lent.sizes.2
+    steps_at _ _ _ _ _ _ _ left.Order (sym c.in-Order.is ∙ c.left.ensures) c.order.ensures (search rules) (let k = c.order.auto in search rules)
