@@ -81,7 +81,8 @@ impl Cursor {
 
     // The order that begins here, and the cursor behind it.
     fn order(self, input: &[u8], proof: &mut [u8], names: &mut [u16], out: &mut [u8]) -> Stepped
-        requires { (self.at < length input.now) × (length input.now ≤ input_limit) × (self.number ≤ input_limit) × (length proof.old ≡ buffer_bytes) × (length names.old ≡ line_limit) × (answer_room ≤ length out.old) }
+        requires within { (self.at < length input.now) × (length input.now ≤ input_limit) × (self.number ≤ input_limit) }
+        requires lent { (length proof.old ≡ buffer_bytes) × (length names.old ≡ line_limit) × (answer_room ≤ length out.old) }
         ensures { OrderAt self input.now proof.old proof.new out.old out.new result }
     {
         let e = eqtrace_script::line_end(input, self.at);

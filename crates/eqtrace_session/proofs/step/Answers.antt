@@ -8,10 +8,10 @@ use Rattle.eqtrace_session.proofs.LeftLaws.{within}
 use Rattle.eqtrace_session.proofs.StepLaws.{steps_at}
 use Rattle.eqtrace_session.proofs.step.Goals as goal
 
-pub order-requires : goal.order-requires
-order-requires c =
+pub order-requires-clause-within : goal.order-requires-clause-within
+order-requires-clause-within c =
     let b = within _ _ _ left.Order (sym c.left.ensures ∙ c.in-Order.is) false refl in
-    (b.inside, ltb-false _ _ b.long, b.number, search rules, search rules, search rules)
+    (b.inside, ltb-false _ _ b.long, b.number)
 
 pub returns-in-Nothing : goal.returns-in-Nothing
 returns-in-Nothing c =
