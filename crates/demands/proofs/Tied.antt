@@ -34,5 +34,5 @@ pub stepwise : Stepwise
 stepwise = record {
   begins = λ κs input c x p. p;
   ends = λ c w x p. p;
-  steps = λ κs c input lent r x y left p. p;
+  steps = λ κs c input proof names out r x y proof' names' out' p. p;
 }

@@ -30,7 +30,6 @@ use Rattle.proof_lines.specs.declared.Line.{Line}
 use Rattle.proof_shorter.specs.Promises.{Chooses, Hands}
 use Rattle.proof_shorter.specs.declared.List.{List as Which}
 use Rattle.proof_shorter.specs.declared.NoChoice.{NoChoice}
-use Rattle.eqtrace_session.specs.declared.Buffers.{Buffers}
 use Rattle.eqtrace_session.specs.Steps.{beginning, Steps}
 use Rattle.eqtrace_session.specs.declared.Cursor.{Cursor}
 use Rattle.eqtrace_session.specs.declared.Stepped.{Stepped}
@@ -88,5 +87,5 @@ pub record Files : Type 0 where
 pub record Stepwise : Type 0 where
   pub begins : (κs : Lfts 1) (input : Bor (List ℕ)) (c : Cursor) (x : Bor (List ℕ)) → begin.Post κs (input, tt) c (x, tt) → c ≡ beginning input.now
   pub ends : (c : Cursor) (w : Workspace) (x : Cursor) → workspace.Post tt (c, tt) w (x, tt) → w ≡ c.workspace
-  pub steps : (κs : Lfts 2) (c : Cursor) (input : Bor (List ℕ)) (lent : MutBor Buffers) (r : Stepped) (x : Cursor) (y : Bor (List ℕ)) (left : MutBor Buffers)
-      → step.Post κs (c, (input, (lent, tt))) r (x, (y, (left, tt))) → Steps c input.now lent.now.proof left.now.proof lent.now.out left.now.out r
+  pub steps : (κs : Lfts 4) (c : Cursor) (input : Bor (List ℕ)) (proof names out : MutBor (List ℕ)) (r : Stepped) (x : Cursor) (y : Bor (List ℕ)) (proof' names' out' : MutBor (List ℕ))
+      → step.Post κs (c, (input, (proof, (names, (out, tt))))) r (x, (y, (proof', (names', (out', tt))))) → Steps c input.now proof.now proof'.now out.now out'.now r

@@ -8,11 +8,13 @@
 --   Says          an answer's text from place 0 on
 --   answer_room   bytes that hold every answer: a word of at most 7 letters, two numbers or one and 8,192 names, each of at most 6 bytes
 --                with its space, and the line break
+--   DigitsShow    the digits of a number, at the end of five bytes
 use Rattle.std.specs.Prelude.{◌≡◌, List, [], ◌∷◌, ◌++◌, ℕ, ◌+◌, ◌<◌, length, take, drop}
 use Rattle.refusals.specs.Numbers.{refusal_number}
-use Rattle.eqtrace_answers.specs.Text.{Output, node, held, gone, same, below, above, apart, refused, unreadable, text_of}
+use Rattle.eqtrace_answers.specs.Text.{Output, node, held, gone, same, below, above, apart, refused, unreadable, text_of, decimal}
 use Rattle.eqtrace_answers.specs.declared.Answer.{Answer as Spoken}
 use Rattle.eqtrace_answers.specs.declared.Answer.TheVariants as says
+use Rattle.eqtrace_answers.specs.declared.Digits.{Digits}
 use Rattle.eqtrace_answers.specs.declared.Draft.{Draft}
 
 abbrev pub pasted : List ℕ → ℕ → List ℕ → List ℕ
@@ -77,3 +79,8 @@ Says a before after next = Puts before 0 (text_of a) after next
 
 abbrev pub answer_room : ℕ
 answer_room = 49184
+
+pub record DigitsShow (x : ℕ) (d : Digits) : Type 0 where
+  pub size : length d.bytes ≡ 5
+  pub start : d.from < 5
+  pub digits : drop d.from d.bytes ≡ decimal x

@@ -1,11 +1,10 @@
 // A reply's bytes, put into a lent buffer.
 #![tactic(auto)]
 
-ghost use Rattle.std.specs.Prelude.{◌≡◌, [], ◌∷◌, ◌+◌, ◌*◌, ◌≤◌, ◌<◌, length};
+ghost use Rattle.std.specs.Prelude.{◌≡◌, [], ◌∷◌, ◌+◌, ◌*◌, ◌%◌, ◌≤◌, ◌<◌, length, drop};
 ghost use Rattle.eqtrace_answers.specs.Text.{spaced};
-ghost use Rattle.eqtrace_answers.specs.Puts.{letters, numbers, meant, Says, Small, Adds};
+ghost use Rattle.eqtrace_answers.specs.Puts.{DigitsShow, letters, numbers, meant, Says, Small, Adds};
 
-use itoa::Buffer;
 use refusals::Refusal;
 
 // What the program says of one order; the cited names stand beside it. No Result: with an order that can't be read comes its number, which
@@ -41,6 +40,47 @@ impl Answer {
     }
 }
 
+// The digits of a number: the last bytes, from `from` on. By hand, so that an answer's bytes stand on no library but `std`, whose own text of a
+// number wants a heap or a `Display`, as at `say`.
+#[derive(Clone, Copy)]
+pub struct Digits {
+    pub bytes: [u8; 5],
+    pub from: usize,
+}
+
+// The last digit of `n`.
+fn digit(n: u32) -> u8
+    ensures { result ≡ 48 + n % 10 }
+{
+    b'0' + (n % 10) as u8
+}
+
+impl Digits {
+    fn of(n: u32) -> Digits
+        requires { n < 100000 }
+        ensures { DigitsShow n result }
+    {
+        let mut bytes = [0; 5];
+        let mut k = 4;
+        let mut x = n;
+        // no `for`: how many digits there are depends on the number
+        while 10 <= x {
+            bytes[k] = digit(x);
+            x /= 10;
+            k -= 1;
+        }
+        bytes[k] = digit(x);
+        Digits { bytes, from: k }
+    }
+
+    fn as_slice(&self) -> &[u8]
+        requires { self.now.from ≤ length self.now.bytes }
+        ensures { result.now ≡ drop self.now.from self.now.bytes }
+    {
+        &self.bytes[self.from..]
+    }
+}
+
 // A reply's text so far: a lent buffer, and the place in it where the next bytes go. The buffer is the caller's memory: there is no heap.
 #[derive(Drop)]
 struct Draft<'a> {
@@ -64,8 +104,8 @@ impl<'a> Draft<'a> {
         ensures { Adds self.old (spaced (n ∷ [])) self.new }
     {
         self.put_bytes(b" ");
-        let mut digits = Buffer::new();
-        self.put_bytes(digits.format(n).as_bytes());
+        let digits = Digits::of(n);
+        self.put_bytes(digits.as_slice());
     }
 
     // The names, each after a space.

@@ -7,7 +7,6 @@ ghost use Rattle.unifier.specs.declared.Workspace.{Workspace};
 ghost use Rattle.eqtrace_session.specs.Transcript.{Finished};
 ghost use Rattle.eqtrace_console.specs.Console.{WritesAnswers};
 
-pub use eqtrace_session::Buffers;
 use std::io;
 use std::io::{Read, Write};
 use unifier::Workspace;
@@ -30,14 +29,20 @@ fn write_after<W: Write>(written: io::Result<()>, to: &mut W, text: &[u8]) -> io
 
 // Writes each answer in full before the next order is looked at. The steps are those of the whole input, from its beginning to its end, and
 // what their texts are `eqtrace_session` promises.
-pub fn answer_all<W: Write>(input: &[u8], lent: &mut Buffers, to: &mut W) -> Answered
+pub fn answer_all<W: Write>(
+    input: &[u8],
+    proof: &mut [u8; 65536],
+    names: &mut [u16; 8192],
+    out: &mut [u8; 49184],
+    to: &mut W,
+) -> Answered
     ensures finished { Finished input.now result.workspace }
     ensures written { OnOk result.written (WritesAnswers (W.contents to.old) (W.contents to.new) input.now result.workspace) }
 {
     let mut c = eqtrace_session::begin(input);
     let mut written = Ok(());
     loop {
-        let s = eqtrace_session::step(c, input, lent);
+        let s = eqtrace_session::step(c, input, proof, names, out);
         let n = s.length;
         let d = s.cursor;
         if n == 0 {
@@ -46,7 +51,7 @@ pub fn answer_all<W: Write>(input: &[u8], lent: &mut Buffers, to: &mut W) -> Ans
                 written,
             };
         }
-        let text: &[u8] = &lent.out;
+        let text: &[u8] = out;
         written = write_after(written, to, &text[0..n]);
         c = d;
     }
@@ -75,10 +80,8 @@ pub fn run<R: Read, W: Write>(from: &mut R, to: &mut W) -> io::Result<()>
 {
     let mut input = [0u8; 65537];
     let n = read_full(from, &mut input)?;
-    let mut lent = Buffers {
-        proof: [0; 65536],
-        names: [0; 8192],
-        out: [0; 49184],
-    };
-    answer_all(&input[..n], &mut lent, to).written
+    let mut proof = [0u8; 65536];
+    let mut names = [0u16; 8192];
+    let mut out = [0u8; 49184];
+    answer_all(&input[..n], &mut proof, &mut names, &mut out, to).written
 }

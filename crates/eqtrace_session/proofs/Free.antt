@@ -4,7 +4,6 @@ use Prim.Native.Nat.{ℕ}
 use contract.Lifetimes.{Lfts}
 use denote.Ref.{Bor}
 use denote.MutBor.{MutBor}
-use Rattle.eqtrace_session.specs.declared.Buffers.{Buffers}
 use Rattle.eqtrace_session.specs.declared.Cursor.{Cursor}
 use Rattle.eqtrace_session.proofs.begin.Reads as begin
 use Rattle.eqtrace_session.proofs.workspace.Reads as workspace
@@ -13,7 +12,7 @@ use Rattle.eqtrace_session.proofs.step.Reads as step
 pub record Free : Type 0 where
   pub begins : (κs : Lfts 1) (input : Bor (List ℕ)) → begin.Pre κs (input, tt)
   pub ends : (c : Cursor) → workspace.Pre tt (c, tt)
-  pub steps : (κs : Lfts 2) (c : Cursor) (input : Bor (List ℕ)) (lent : MutBor Buffers) → step.Pre κs (c, (input, (lent, tt)))
+  pub steps : (κs : Lfts 4) (c : Cursor) (input : Bor (List ℕ)) (proof names out : MutBor (List ℕ)) → step.Pre κs (c, (input, (proof, (names, (out, tt)))))
 
 pub free : Free
-free = record { begins = λ κs input. tt; ends = λ c. tt; steps = λ κs c input lent. tt }
+free = record { begins = λ κs input. tt; ends = λ c. tt; steps = λ κs c input proof names out. tt }

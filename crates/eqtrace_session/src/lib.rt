@@ -13,16 +13,6 @@ const INPUT: usize = 65536; // bytes of an input
 
 const ORDERS: u32 = 65536; // of an input: each has at least its line break, but perhaps the last
 
-// What a caller lends: bytes for a proof, places for names and bytes for an answer, as `eqtrace_carry` asks for them. `sizes` stands here, since
-// the length of an array in a struct behind a reference isn't known otherwise.
-#[derive(Drop)]
-pub struct Buffers {
-    pub proof: [u8; 65536],
-    pub names: [u16; 8192],
-    pub out: [u8; 49184],
-    pub ghost sizes: { (length proof ≡ buffer_bytes) × (length names ≡ line_limit) × (length out ≡ answer_room) },
-}
-
 // A place in an input: whether to keep going after a refusal, the workspace after the orders before it, where the next one begins, and its
 // number. Only `begin` and `step` make one.
 #[derive(Clone, Copy)]
@@ -90,18 +80,19 @@ impl Cursor {
     }
 
     // The order that begins here, and the cursor behind it.
-    fn order(self, input: &[u8], lent: &mut Buffers) -> Stepped
-        requires { (self.at < length input.now) × (length input.now ≤ input_limit) × (self.number ≤ input_limit) }
-        ensures { OrderAt self input.now lent.old.proof lent.new.proof lent.old.out lent.new.out result }
+    fn order(self, input: &[u8], proof: &mut [u8], names: &mut [u16], out: &mut [u8]) -> Stepped
+        requires within { (self.at < length input.now) × (length input.now ≤ input_limit) × (self.number ≤ input_limit) }
+        requires lent { (length proof.old ≡ buffer_bytes) × (length names.old ≡ line_limit) × (answer_room ≤ length out.old) }
+        ensures { OrderAt self input.now proof.old proof.new out.old out.new result }
     {
         let e = eqtrace_script::line_end(input, self.at);
         let carried = eqtrace_carry::carry_out(
             self.workspace,
             &input[self.at..e],
             self.number,
-            &mut lent.proof,
-            &mut lent.names,
-            &mut lent.out,
+            proof,
+            names,
+            out,
         );
         let next = eqtrace_script::next_place(self.keep, carried.refused, e, input.len());
         Stepped {
@@ -139,16 +130,23 @@ pub fn begin(input: &[u8]) -> Cursor
     }
 }
 
-// One order, from its line to its text at the start of `lent.out`. Where nothing is left, the cursor stays and the text is empty.
-pub fn step(c: Cursor, input: &[u8], lent: &mut Buffers) -> Stepped
-    ensures { Steps c input.now lent.old.proof lent.new.proof lent.old.out lent.new.out result }
+// One order, from its line to its text at the start of `out`. Where nothing is left, the cursor stays and the text is empty. Three arrays and no
+// struct of them, so that a caller can lend arrays that stand apart.
+pub fn step(
+    c: Cursor,
+    input: &[u8],
+    proof: &mut [u8; 65536],
+    names: &mut [u16; 8192],
+    out: &mut [u8; 49184],
+) -> Stepped
+    ensures { Steps c input.now proof.old proof.new out.old out.new result }
 {
     match c.left(input) {
         Left::Nothing => Stepped {
             cursor: c,
             length: 0,
         },
-        Left::TooLong => c.too_long(input, &mut lent.out),
-        Left::Order => c.order(input, lent),
+        Left::TooLong => c.too_long(input, out),
+        Left::Order => c.order(input, proof, names, out),
     }
 }

@@ -8,8 +8,8 @@ use Rattle.eqtrace_session.proofs.LeftLaws.{within}
 use Rattle.eqtrace_session.proofs.StepLaws.{steps_at}
 use Rattle.eqtrace_session.proofs.step.Goals as goal
 
-pub order-requires : goal.order-requires
-order-requires c =
+pub order-requires-clause-within : goal.order-requires-clause-within
+order-requires-clause-within c =
     let b = within _ _ _ left.Order (sym c.left.ensures ∙ c.in-Order.is) false refl in
     (b.inside, ltb-false _ _ b.long, b.number)
 
@@ -23,4 +23,4 @@ returns-in-TooLong c =
 
 pub returns-in-Order : goal.returns-in-Order
 returns-in-Order c =
-    steps_at _ _ _ _ _ _ _ left.Order (sym c.in-Order.is ∙ c.left.ensures) c.order.ensures c.args.lent.now.sizes.0 c.order.new.lent.sizes.2
+    steps_at _ _ _ _ _ _ _ left.Order (sym c.in-Order.is ∙ c.left.ensures) c.order.ensures (search rules) (let k = c.order.auto in search rules)
