@@ -96,10 +96,10 @@ pub choice_says : (r : Result Which NoChoice) (c : Choice) → FromShorter r →
 choice_says r c f e = chosen_back c (subst Listed_choice e (choice_listed r f))
 
 for_listed : (r : Result Which NoChoice) → Listed_choice (choice r) → FromShorter r
+unfolding chosen_as
 for_listed r p = subst FromShorter (chosen_there r p) (go (choice r) p)
   where
     go : (c : Choice) → Listed_choice c → FromShorter (chosen_as c)
-    unfolding chosen_as
     go first p = tt
     go second p = tt
     go (refusal k) p = p.1

@@ -97,7 +97,7 @@ shorter_listed s o g a b =
     go true = tt
     go false = tt
 
-pub chosen_as : Choice → Result Which NoChoice
+unfoldable pub chosen_as : Choice → Result Which NoChoice
 chosen_as first = Ok First
 chosen_as second = Ok Second
 chosen_as (refusal k) = Err (record { refusal = numbered k; list = None })
