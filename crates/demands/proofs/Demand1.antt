@@ -27,7 +27,7 @@ use Rattle.unifier.specs.Views.{Valid, state_of, packed}
 use Rattle.unifier.specs.Replies.{said, node_number, is_held, is_gone, outcome}
 use Rattle.unifier.specs.Answers.{Answers}
 use Rattle.unifier.specs.Equate.{LeftBehind, Written, Equates}
-use Rattle.unifier.specs.Compare.{Stands, StandsAs as Answer, Replies, refusal_of}
+use Rattle.unifier.specs.Compare.{StandsAs as Answer, Replies, refusal_of}
 use Rattle.unifier.specs.Compare as stance
 use Rattle.unifier.specs.Class.{ClassReplies}
 use Rattle.unifier.specs.Check.{check_reply}

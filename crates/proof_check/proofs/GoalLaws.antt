@@ -4,7 +4,7 @@ use mathlib.Core.Bool.{Bool, true, false, not}
 use mathlib.Core.List.{List}
 use mathlib.Core.Option.{Option, none, some}
 use Prim.Native.Nat.{ℕ}
-use Rattle.std.specs.Prelude.{Option as Answer, Some, None}
+use Rattle.std.specs.Prelude.{Option as Answer, Some}
 use Rattle.graph.specs.State.{Node}
 use Rattle.graph.specs.Lines.{same, Functor, functor_at, equal_labels}
 use Rattle.graph.specs.Goals.{clash_goal, labels_differ, shows}

@@ -6,7 +6,7 @@ use Prim.Native.Nat.{ℕ, ◌≤◌, ◌<◌}
 use lib.Dec.{eqb, ltb}
 use borrow.Author.Tests.{eqb-true, eqb-false, ltb-true, ltb-false}
 use Rattle.base.proofs.TabLaws.{tab_past}
-use Rattle.std.specs.Prelude.{Option as Answer, Some, None}
+use Rattle.std.specs.Prelude.{Option as Answer, Some}
 use Rattle.graph.specs.Lines.{same, below, try, need, place_at, Functor, functor_at, equal_labels, by_child, by_reflexivity, down_to, down_of}
 use Rattle.proof_rules.specs.Rules.{labels_compared}
 use Rattle.store.specs.Views.{kind_at, symbol_at, children_at, node_at, nodes_of}
