@@ -17,6 +17,10 @@ module _ {A : Type 0} where
   unfolding tab
   tab_none f = refl
 
+  pub tab_first : (n : ℕ) (f : ℕ → A) → tab (suc n) f ≡ f 0 ∷ tab n (λ i. f (suc i))
+  unfolding tab
+  tab_first n f = refl
+
   pub tab_length : (n : ℕ) (f : ℕ → A) → length (tab n f) ≡ n
   unfolding tab
   tab_length zero f = refl

@@ -27,7 +27,7 @@ use Rattle.unifier.specs.Views.{Valid, state_of, packed}
 use Rattle.unifier.specs.Replies.{said, node_number, is_held, is_gone, outcome}
 use Rattle.unifier.specs.Answers.{Answers}
 use Rattle.unifier.specs.Equate.{LeftBehind, Written, Equates}
-use Rattle.unifier.specs.Compare.{Stands, StandsAs as Answer, Replies, refusal_of}
+use Rattle.unifier.specs.Compare.{StandsAs as Answer, Replies, refusal_of}
 use Rattle.unifier.specs.Compare as stance
 use Rattle.unifier.specs.Class.{ClassReplies}
 use Rattle.unifier.specs.Check.{check_reply}
@@ -47,6 +47,7 @@ use Rattle.proof_file.specs.Promises.{Writes}
 use Rattle.proof_file.specs.Promises as files
 use Rattle.proof_shorter.proofs.ChoiceLaws.{chosen_as, choice_there, no_choice_there, choice_back}
 use Rattle.demands.proofs.Decides.{refused_is}
+use Rattle.demands.proofs.Values.{check_one, check_says, check_gives, choice_one, choice_says, choice_gives}
 use Rattle.demands.specs.Demand1.{Refuses, Away, Unchanged, bare, uncounted, uncounted_stance, OneReply, OneValue, Demand1}
 
 -- ---- each reply is one value
@@ -57,10 +58,16 @@ one_value = record {
   check_there = λ s o g bytes r e. judged_one _ r (check_reply s o g bytes) (check_listed s o g bytes) (check_back s o g bytes) e;
   no_check_there = λ r e. judged_one _ r (refused 1) (refl, refl) (replied_back (refused 1) (refl, refl)) e;
   check_back = check_back;
+  check_one = check_one;
+  check_says = check_says;
+  check_gives = check_gives;
   chosen_as = chosen_as;
   choice_there = choice_there;
   no_choice_there = no_choice_there;
   choice_back = choice_back;
+  choice_one = choice_one;
+  choice_says = choice_says;
+  choice_gives = choice_gives;
 }
   where
     check_back : (s : State) (o : Option Equation) (g : Goal) (bytes : List ℕ) → judged_as (replied (check_reply s o g bytes)) ≡ check_reply s o g bytes

@@ -2,5 +2,6 @@
 pub mod Decides
 pub mod Demand3
 pub mod Tied
+pub mod Values
 pub mod Demand1
 pub mod Demand2

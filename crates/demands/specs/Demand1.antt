@@ -4,13 +4,15 @@
 --   Away         a value that is no workspace: refusal 1 from every call but clear, and nothing changed
 --   Unchanged    a workspace: a refusal leaves it, and the lent bytes but for the lines of 8 and 9
 --   OneReply     a call on a workspace has one reply, line counts aside (`uncounted`, `uncounted_stance`), and leaves one workspace
+--   FromCheck, FromShorter   the values of the results that check and shorter-of-two give: all that bring no proof
 --   OneValue     of check and of shorter-of-two each reply is one value of the result, and that value says one reply
-use Rattle.std.specs.Prelude.{◌≡◌, cond, List, ℕ, eqb, Result, Ok, Err}
+use Rattle.std.specs.Prelude.{◌≡◌, cond, List, ℕ, eqb, Result, Ok, Err, Some, None}
+use Rattle.std.specs.declared.option.Option.{Option as Optional}
 use Rattle.std.proofs.Math.Option.{Option}
 use Rattle.graph.specs.State.{Node as GraphNode, Equation, State}
 use Rattle.graph.specs.Goals.{Goal, Judgement, refused}
 use Rattle.graph.specs.Book as book
-use Rattle.refusals.specs.Numbers.{refusal_number}
+use Rattle.refusals.specs.Numbers.{refusal_number, Brought, nothing, proof, place, brings}
 use Rattle.refusals.specs.declared.Refusal.{Refusal}
 use Rattle.refusals.specs.declared.Refusal.TheVariants.{NotAWorkspace, Clash, Cycle}
 use Rattle.solve_classes.specs.declared.Figures.{Figures}
@@ -28,6 +30,7 @@ use Rattle.unifier.specs.declared.Workspace.{Workspace}
 use Rattle.unifier.specs.declared.Outcome.{Outcome}
 use Rattle.proof_file.specs.Promises.{Writes}
 use Rattle.proof_shorter.specs.Choice.{Choice, choice, refusal, shorter_reply}
+use Rattle.proof_shorter.specs.Promises.{Chooses}
 use Rattle.proof_shorter.specs.declared.List.{List as Which}
 use Rattle.proof_shorter.specs.declared.NoChoice.{NoChoice}
 use Rattle.unifier.proofs.Free as calls
@@ -83,18 +86,44 @@ pub record OneReply (w : Workspace) : Type 0 where
   pub classifies : (u : ℕ) (r q : Outcome Figures) → Classifies w u r → Classifies w u q → r ≡ q
   pub checks : (o : Option Equation) (g : Goal) (bytes : List ℕ) (r q : Outcome (Unit {0})) → Checks w o g bytes r → Checks w o g bytes q → r ≡ q
 
--- what is replied to a judgement, and to a choice, is one value, and that value says just it; of what is no workspace, refusal 1
+-- clash and cycle bring lines of a proof, and are equate's alone
+abbrev pub NoProof : Brought → Type 0
+NoProof nothing = Unit {0}
+NoProof (proof n) = ⊥
+NoProof (place i) = Unit {0}
+
+abbrev pub FromCheck : Result (Unit {0}) Refusal → Type 0
+FromCheck (Ok u) = Unit {0}
+FromCheck (Err r) = NoProof (brings r)
+
+-- a refusal that names no list brings no line of it either
+abbrev pub ForList : Optional Which → Brought → Type 0
+ForList None b = b ≡ nothing
+ForList (Some l) b = NoProof b
+
+abbrev pub FromShorter : Result Which NoChoice → Type 0
+FromShorter (Ok l) = Unit {0}
+FromShorter (Err n) = ForList n.list (brings n.refusal)
+
+-- what is replied to a judgement, and to a choice, is one value, and that value says just it; of what is no workspace, refusal 1.
+-- `check_one`, `choice_one`: so each value that the calls give is the only one that says what it says, whether any call gives it or not
 pub record OneValue : Type 0 where
   pub checked_as : Judgement → Result (Unit {0}) Refusal
   pub check_there : (s : State) (o : Option Equation) (g : Goal) (bytes : List ℕ) (r : Result (Unit {0}) Refusal) → judged_as r ≡ check_reply s o g bytes
       → checked_as (check_reply s o g bytes) ≡ r
   pub no_check_there : (r : Result (Unit {0}) Refusal) → judged_as r ≡ refused 1 → checked_as (refused 1) ≡ r
   pub check_back : (s : State) (o : Option Equation) (g : Goal) (bytes : List ℕ) → judged_as (checked_as (check_reply s o g bytes)) ≡ check_reply s o g bytes
+  pub check_one : (r : Result (Unit {0}) Refusal) → FromCheck r → checked_as (judged_as r) ≡ r
+  pub check_says : (r : Result (Unit {0}) Refusal) (j : Judgement) → FromCheck r → judged_as r ≡ j → judged_as (checked_as j) ≡ j
+  pub check_gives : (w : Workspace) (o : Option Equation) (g : Goal) (bytes : List ℕ) (r : Outcome (Unit {0})) → Checks w o g bytes r → FromCheck r.reply
   pub chosen_as : Choice → Result Which NoChoice
   pub choice_there : (s : State) (o : Option Equation) (g : Goal) (a b : List ℕ) (r : Result Which NoChoice) → choice r ≡ shorter_reply s o g a b
       → chosen_as (shorter_reply s o g a b) ≡ r
   pub no_choice_there : (r : Result Which NoChoice) → choice r ≡ refusal 1 → chosen_as (refusal 1) ≡ r
   pub choice_back : (s : State) (o : Option Equation) (g : Goal) (a b : List ℕ) → choice (chosen_as (shorter_reply s o g a b)) ≡ shorter_reply s o g a b
+  pub choice_one : (r : Result Which NoChoice) → FromShorter r → chosen_as (choice r) ≡ r
+  pub choice_says : (r : Result Which NoChoice) (c : Choice) → FromShorter r → choice r ≡ c → choice (chosen_as c) ≡ c
+  pub choice_gives : (w : Workspace) (o : Option Equation) (g : Goal) (a b : List ℕ) (r : Result Which NoChoice) → Chooses w o g a b r → FromShorter r
 
 pub record Demand1 : Type 1 where
   -- no public function has a `requires`: stated beside the functions, in each crate's proofs/Free

@@ -40,6 +40,9 @@ use Rattle.eqtrace_carry.specs.declared.Carried.{Carried}
 
 -- ---- cited names
 
+pub cites_none : (n : ℕ) (bytes : List ℕ) → n ≡ 0 → CitesIn n bytes []
+cites_none n bytes e = record { few = omega arith; none = λ q. refl; some = λ q. absurd (omega arith) }
+
 pub cites_some : (n : ℕ) (bytes cited : List ℕ) → (n ≡ 0 → ⊥) → 8 * n ≤ length bytes → CitedRising (lines_of (take (8 * n) bytes)) cited → length cited ≤ 8192 → CitesIn n bytes cited
 cites_some n bytes cited z h c f = record {
   few = f;

@@ -1,9 +1,10 @@
 -- The order that a line was parsed as is the grammar's.
-use mathlib.Core.Path.{◌≡◌, ap, subst}
-use mathlib.Core.List.{List}
+use mathlib.Core.Path.{◌≡◌, refl, sym, ap, ◌∙◌, subst}
+use mathlib.Core.List.{List, []}
 use mathlib.Core.Option.{Option, none, some}
 use Prim.Native.Nat.{ℕ}
-use Rattle.std.specs.Prelude.{Some}
+use Rattle.std.specs.Prelude.{Some, None}
+use Rattle.std.specs.declared.option.Option.{Option as Optional}
 use Rattle.bounded_list.specs.Bounded.{Bounded, holding}
 use Rattle.graph.specs.State.{functor}
 use Rattle.graph.specs.Book as book
@@ -13,6 +14,7 @@ use Rattle.unifier.specs.declared.Workspace.{Workspace}
 use Rattle.eqtrace_orders.specs.Grammar.{Order}
 use Rattle.eqtrace_orders.specs.Grammar as order
 use Rattle.eqtrace_orders.specs.Parse.{first_five, order_found}
+use Rattle.eqtrace_orders.specs.declared.Order.{Order as Code}
 use Rattle.eqtrace_orders.specs.declared.Order.TheVariants as code
 use Rattle.eqtrace_carry.specs.Carried.{Carries}
 use Rattle.eqtrace_carry.specs.declared.Carried.{Carried}
@@ -45,3 +47,29 @@ carries_functor o f children e w i before after old new r C =
       says = C.says;
       refused_is = C.refused_is;
     })
+
+-- ---- what was parsed tells the order; cs are the children of a functor node
+
+abbrev order_by : Optional Code → List ℕ → Option Order
+order_by None cs = none
+order_by (Some code.Variable) cs = some order.variable
+order_by (Some (code.Functor f children)) cs = some (order.functor f cs)
+order_by (Some (code.Equate n u v)) cs = some (order.equate n u v)
+order_by (Some (code.Withdraw n)) cs = some (order.withdraw n)
+order_by (Some (code.Query u v)) cs = some (order.query u v)
+
+inverse : (o : Option Order) → (cs : List ℕ) × (o ≡ order_by (order_found o) cs)
+inverse none = ([], refl)
+inverse (some order.variable) = ([], refl)
+inverse (some (order.functor f cs)) = (cs, refl)
+inverse (some (order.equate n u v)) = ([], refl)
+inverse (some (order.withdraw n)) = ([], refl)
+inverse (some (order.query u v)) = ([], refl)
+
+module _ (o : Option Order) (c : Optional Code) (e : order_found o ≡ c) (t : Option Order) (k : (cs : List ℕ) → order_by c cs ≡ t) where
+  -- what isn't an `F` tells its order
+  pub order_is : o ≡ t
+  order_is = let i = inverse o in i.1 ∙ ap (λ (x : Optional Code). order_by x i.0) e ∙ k i.0
+
+  pub carries_order : (w : Workspace) (i : ℕ) (before after old new : List ℕ) (r : Carried) → Carries w i t before after old new r → Carries w i o before after old new r
+  carries_order w i before after old new r h = subst (λ (x : Option Order). Carries w i x before after old new r) (sym order_is) h

@@ -1,4 +1,5 @@
 -- The words of an order, read one after the other as numbers.
+use mathlib.Core.Bool.{Bool, true, false}
 use Rattle.std.proofs.Common.{◌≡◌, ℕ, zero, suc, ◌+◌, ◌≤◌, ◌<◌, List, [], ◌∷◌, ◌++◌, length, take, drop, get_or, cond, eqb, refl, sym, ap, ◌∙◌, append_assoc, arith}
 use Rattle.std.specs.Prelude.{◌↔◌, Some, None, Result, Ok, Err, IsOk, OnOk, OnErr}
 use Rattle.std.specs.List.{slice_split, onto_first}
@@ -6,7 +7,7 @@ use Rattle.std.proofs.Math.Option as math
 use Rattle.std.proofs.lemmas.List.{take_all, take-append-le, length-append, at_drop_more, at_drop_all}
 use Rattle.graph.specs.Lines.{try}
 use Rattle.eqtrace_orders.specs.Grammar.{on_first, split, number_in, numbers_of}
-use Rattle.eqtrace_orders.specs.Parse.{handed_on}
+use Rattle.eqtrace_orders.specs.Parse.{handed_on, six_of, words_found}
 use mathlib.Core.List.{append-nil}
 
 onto : (x : ℕ) (parts : List (List ℕ)) → onto_first x parts ≡ on_first x parts
@@ -64,3 +65,33 @@ module _ (words : List (List ℕ)) (k : ℕ) (kept : List ℕ) (R : Reading word
         go : (o : math.Option (List ℕ)) → prefixed R.seen (try o (λ ns. math.some (x ∷ ns))) ≡ prefixed (R.seen ++ x ∷ []) o
         go math.none = refl
         go (math.some ns) = ap math.some (sym (append_assoc R.seen (x ∷ []) ns))
+
+-- ---- how many
+
+-- there is always a part
+some_part : (at : ℕ) (l : List ℕ) → 1 ≤ length (split at l)
+some_part at [] = omega arith
+some_part at (x ∷ xs) = go (eqb x at)
+  where
+    onto_some : (parts : List (List ℕ)) → 1 ≤ length (on_first x parts)
+    onto_some [] = omega arith
+    onto_some (p ∷ ps) = omega arith
+
+    go : (b : Bool) → 1 ≤ length (cond b ([] ∷ split at xs) (on_first x (split at xs)))
+    go true = omega arith
+    go false = onto_some (split at xs)
+
+-- words that are numbers: there is one
+some_words : (o : math.Option (List ℕ)) (n : math.Option ℕ) (v : ArrayVec ℕ) → six_of (try n (λ x. try o (λ l. math.some (x ∷ l)))) ≡ Some v → 1 ≤ length v.items
+some_words o math.none v e = cc
+some_words math.none (math.some x) v e = cc
+some_words (math.some l) (math.some x) v e =
+    let z : v.items ≡ x ∷ take 5 l = ap (λ (r : ArrayVec ℕ). r.items) (cc) in
+    rw z (omega arith)
+
+pub collected_some : (l : List ℕ) (v : ArrayVec ℕ) → words_found l ≡ Some v → 1 ≤ length v.items
+collected_some l v = go (split 32 l) (some_part 32 l)
+  where
+    go : (ws : List (List ℕ)) → 1 ≤ length ws → six_of (numbers_of ws) ≡ Some v → 1 ≤ length v.items
+    go [] n e = absurd (omega arith)
+    go (w ∷ ws) n e = some_words (numbers_of ws) (number_in w) v e

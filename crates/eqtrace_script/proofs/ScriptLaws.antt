@@ -14,7 +14,10 @@ use borrow.Author.Tests.{eqb-true, ltb-false}
 use Rattle.eqtrace_orders.specs.Grammar.{order_of}
 use Rattle.eqtrace_orders.specs.Input.{first_line, EndsAt}
 use Rattle.eqtrace_orders.proofs.InputLaws.{first_is_taken}
-use Rattle.eqtrace_script.specs.Script.{goes_on, next_place, is_keep}
+use Rattle.eqtrace_answers.specs.Puts.{meant}
+use Rattle.eqtrace_answers.specs.declared.Answer.{Answer as Code}
+use Rattle.eqtrace_answers.specs.declared.Answer.TheVariants as says
+use Rattle.eqtrace_script.specs.Script.{refuses, goes_on, next_place, is_keep}
 
 -- the first line break, where std looks for it
 line_position : (l : List ℕ) → position_or_len (λ b. eqb b 10) l ≡ length (first_line l)
@@ -64,6 +67,17 @@ keep_unreadable (x ∷ (y ∷ ys)) e = cc
 
 pub first_line_lem : (input : List ℕ) (end : ℕ) → EndsAt input 0 end → take (end - 0) input ≡ first_line input
 first_line_lem input end e = let k : end - 0 ≡ length (first_line input) = omega (arith, e.end_at) in ap (λ (n : ℕ). take n input) k ∙ first_is_taken input
+
+pub refuses_meant : (a : Code) (ns : List ℕ) → refuses (meant a []) ≡ refuses (meant a ns)
+refuses_meant (says.Node i) ns = refl
+refuses_meant (says.Held n) ns = refl
+refuses_meant (says.Gone n) ns = refl
+refuses_meant says.Same ns = refl
+refuses_meant says.Below ns = refl
+refuses_meant says.Above ns = refl
+refuses_meant says.Apart ns = refl
+refuses_meant (says.Refused k) ns = refl
+refuses_meant (says.Unreadable i) ns = refl
 
 -- the next place lies behind the order's, whether it is the next line's or the end
 pub place_on : (keep refusal : Bool) (at end size : ℕ) → at ≤ end → at < size → at < next_place keep refusal end size

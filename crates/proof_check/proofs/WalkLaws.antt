@@ -1,5 +1,5 @@
 -- The checker's walk: what it has shown after i lines, and each way on.
-use Rattle.std.proofs.Common.{◌≡◌, sym, ap, ◌∙◌, List, [], ◌∷◌, ◌++◌, ℕ, suc, ◌+◌, ◌-◌, ◌/◌, ◌≤◌, ◌<◌, length, take, get_or, set, arith, Some}
+use Rattle.std.proofs.Common.{◌≡◌, refl, sym, ap, ◌∙◌, List, [], ◌∷◌, ◌++◌, ℕ, suc, ◌+◌, ◌-◌, ◌/◌, ◌≤◌, ◌<◌, length, take, get_or, set, arith, Some}
 use Rattle.std.proofs.Math.Option.{Option, none, some}
 use Rattle.std.proofs.lemmas.List.{map-append, length-map}
 use lib.ListN.{length-set}
@@ -22,6 +22,9 @@ pub record Walking (s : State) (bs : List ℕ) (claims : List ClaimMade) (i : �
   pub so_far : line_claims s [] (take i (lines_of bs)) ≡ all (claims_of (take i claims))
 
 module _ (s : State) (bs : List ℕ) (claims : List ClaimMade) where
+  pub walking_none : length claims ≡ 8192 → Walking s bs claims 0
+  walking_none e = record { long = e; so_far = refl }
+
   module _ (i : ℕ) (w : Walking s bs claims i) (few : i < 8192) (l : LineRead) (d : decoded bs i ≡ Some l) where
     -- o is what the line claims
     step : (o : Option Claim) → o ≡ claim_of s (claims_of (take i claims)) (line_seen l)

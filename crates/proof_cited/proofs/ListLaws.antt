@@ -5,7 +5,7 @@ use mathlib.Core.List.{List}
 use Prim.Native.Nat.{ℕ, suc, ◌+◌, ◌*◌, ◌/◌, ◌≤◌, ◌<◌}
 use native.Mathlib.Omega.{arith}
 use lib.ListN.{length, take, get_or, set, length-set}
-use Rattle.std.proofs.lemmas.List.{length-take-le, get_or-take}
+use Rattle.std.proofs.lemmas.List.{length-take-le, get_or-take, get_or_past}
 use lib.Dec.{ltb}
 use lib.Seq.{get_or-set_same, get_or-set_other}
 use borrow.Author.Tests.{ltb-true, ltb-false}
@@ -15,6 +15,17 @@ use Rattle.proof_cited.specs.Cited.{CitedRising}
 use Rattle.proof_cited.specs.declared.Marker.{Marker}
 use Rattle.proof_cited.specs.Marks.{trues, Listable, NamesNoted, Listing, Listed}
 use Rattle.proof_cited.proofs.OneLaws.{trues_longer, trues_next, trues_part}
+
+pub listing_start : (seen : List Bool) (names : List ℕ) → trues seen ≤ 8192 → 8192 ≤ length names → Listing seen names 0 0
+listing_start seen names f h = record {
+  room = h;
+  few = f;
+  counted = omega arith;
+  only = λ i k. absurd (omega arith);
+  lower = λ i k. absurd (omega arith);
+  every = λ y k. absurd (omega arith);
+  rising = λ i j k l. absurd (omega arith);
+}
 
 module _ (seen : List Bool) (names : List ℕ) (n x : ℕ) (w : Listing seen names n x) where
   -- no name from x to z
@@ -67,6 +78,19 @@ module _ (seen : List Bool) (names : List ℕ) (n x : ℕ) (w : Listing seen nam
       where
         old : (y : ℕ) → (i : ℕ) × (i < n) × (get_or names i 0 ≡ y) → (i : ℕ) × (i < n + 1) × (get_or (set names n x) i 0 ≡ y)
         old y p = (p.0, (let h = p.1 in omega arith), kept p.0 p.1 ∙ p.2)
+
+pub listing_end : (m : Marker) (names : List ℕ) (n x : ℕ) → Listing m.names names n x → 65536 ≤ x → Listed m.names names n
+listing_end m names n x w h = record {
+  only = w.only;
+  every = λ y e. side y e (ltb y x) refl;
+  rising = w.rising;
+  fits = omega (arith, w.room, listing_few m.names names n x w);
+  few = listing_few m.names names n x w;
+}
+  where
+    side : (y : ℕ) → get_or m.names y false ≡ true → (b : Bool) → ltb y x ≡ b → (i : ℕ) × (i < n) × (get_or names i 0 ≡ y)
+    side y e true q = w.every y (ltb-true y x q) e
+    side y e false q = let l = ltb-false y x q in let z = get_or_past m.names y false (omega (arith, m.sizes)) in cc
 
 -- a block without a name
 pub listing_jump : (m : Marker) (names : List ℕ) (n b : ℕ) → Listing m.names names n (64 * b) → Listable m → get_or m.blocks b false ≡ false

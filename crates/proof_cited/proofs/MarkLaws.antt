@@ -79,6 +79,10 @@ module _ (m : List Bool) (k a : ℕ) where
       go true q e = ⊎_elim (λ x. inl x) (λ y. let l = ltb-true a k q in inr (omega arith, y)) (set_from m a i e)
       go false q e = inl e
 
+pub all_length : (m : List Bool) (k : ℕ) (l : List ℕ) → length (mark_all m k l) ≡ length m
+all_length m k [] = refl
+all_length m k (a ∷ l) = all_length (mark_one m k a) k l ∙ one_length m k a
+
 pub all_keep : (m : List Bool) (k : ℕ) (l : List ℕ) → k ≤ length m → (i : ℕ) → get_or m i false ≡ true → get_or (mark_all m k l) i false ≡ true
 all_keep m k [] h i e = e
 all_keep m k (a ∷ l) h i e = all_keep (mark_one m k a) k l (omega (arith, one_length m k a)) i (one_keep m k a h i e)
@@ -105,6 +109,14 @@ all_from m k (a ∷ l) i e =
 -- ---- names
 
 module _ (s : List Bool) (r f : ℕ) where
+  pub see_length : length (see_one s r f) ≡ length s
+  unfolding see_one
+  see_length = go (eqb r 1)
+    where
+      go : (b : Bool) → length (cond b (set s f true) s) ≡ length s
+      go true = length-set s f true
+      go false = refl
+
   pub see_keep : (x : ℕ) → get_or s x false ≡ true → f < length s → get_or (see_one s r f) x false ≡ true
   unfolding see_one
   see_keep x e h = go (eqb r 1)

@@ -7,10 +7,16 @@ use Rattle.proof_lines.specs.declared.Rule.{Rule}
 use Rattle.proof_lines.specs.declared.Rule.TheVariants.{Equation, Child, Reflexivity, Symmetry, Transitivity, Down}
 use Rattle.proof_lines.specs.Reading.{number_of}
 use borrow.Author.Tests.{ne_eqb}
+use mathlib.Core.Bool.{and-false}
 
 need_none : {A : Type 0} (b : Bool) → none ≡ need {A = A} b none
 need_none true = refl
 need_none false = refl
+
+-- bytes 6 and 7 are to be zero
+tidy_reserved : (l : Line) → (l.reserved ≡ 0 → ⊥) → tidy l ≡ false
+unfolding tidy
+tidy_reserved l h = rw (ne_eqb _ _ h) (simp and-false)
 
 module _ (s : State) (done : List Claim) (l : Line) where
   -- what a rule claims of the line
@@ -35,6 +41,9 @@ module _ (s : State) (done : List Claim) (l : Line) where
   pub claim_untidy : (b : Bool) → b ≡ tidy l → b ≡ false → none ≡ claim_of s done l
   unfolding claim_of
   claim_untidy b d e = let q : tidy l ≡ false = cc in rw q
+
+  pub claim_reserved : (l.reserved ≡ 0 → ⊥) → claim_of s done l ≡ none
+  claim_reserved h = sym (claim_untidy false (sym (tidy_reserved l h)) refl)
 
   pub claim_unruled : ((r : Rule) → number_of r ≡ l.rule → ⊥) → none ≡ claim_of s done l
   unfolding claim_of by_rule

@@ -71,7 +71,7 @@ module _ (w : Workspace) (o : Option Equation) (g : Goal) (a b : List ℕ) where
 -- ---- one value for each choice
 
 -- the choice's number is that of a refusal which brings nothing, and its list is 1 or 2
-abbrev Listed_choice : Choice → Type 0
+abbrev pub Listed_choice : Choice → Type 0
 Listed_choice first = Unit {0}
 Listed_choice second = Unit {0}
 Listed_choice (refusal k) = (refusal_number (numbered k) ≡ k) × (brings (numbered k) ≡ nothing)
@@ -87,7 +87,7 @@ or_else_listed l (refused k) c x p q = go (ltb k 11)
     go false = (p, x)
 or_else_listed l (broken_line i) c x p q = x
 
-shorter_listed : (s : State) (o : Option Equation) (g : Goal) (a b : List ℕ) → Listed_choice (shorter_reply s o g a b)
+pub shorter_listed : (s : State) (o : Option Equation) (g : Goal) (a b : List ℕ) → Listed_choice (shorter_reply s o g a b)
 unfolding shorter_reply
 shorter_listed s o g a b =
     or_else_listed 1 (check_reply s o g a) _ refl (check_listed s o g a)
@@ -97,14 +97,14 @@ shorter_listed s o g a b =
     go true = tt
     go false = tt
 
-pub chosen_as : Choice → Result Which NoChoice
+unfoldable pub chosen_as : Choice → Result Which NoChoice
 chosen_as first = Ok First
 chosen_as second = Ok Second
 chosen_as (refusal k) = Err (record { refusal = numbered k; list = None })
 chosen_as (refusal_in k l) = Err (record { refusal = numbered k; list = Some (which l) })
 chosen_as (broken_in l i) = Err (record { refusal = BrokenLine i; list = Some (which l) })
 
-chosen_back : (c : Choice) → Listed_choice c → choice (chosen_as c) ≡ c
+pub chosen_back : (c : Choice) → Listed_choice c → choice (chosen_as c) ≡ c
 unfolding chosen_as
 chosen_back first p = refl
 chosen_back second p = refl
@@ -112,7 +112,7 @@ chosen_back (refusal k) p = rw p.0 refl
 chosen_back (refusal_in k l) p = rw (p.0.0, p.0.1, p.1) refl
 chosen_back (broken_in l i) p = rw p refl
 
-chosen_there : (r : Result Which NoChoice) → Listed_choice (choice r) → chosen_as (choice r) ≡ r
+pub chosen_there : (r : Result Which NoChoice) → Listed_choice (choice r) → chosen_as (choice r) ≡ r
 unfolding chosen_as
 chosen_there (Ok First) p = refl
 chosen_there (Ok Second) p = refl

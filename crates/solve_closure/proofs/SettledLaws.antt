@@ -9,6 +9,7 @@ use Rattle.graph.proofs.SolutionLaws.{same_class}
 use Rattle.solve_classes.specs.Table.{class, Fresh}
 use Rattle.solve_classes.specs.Exact.{Exact, Sound}
 use Rattle.store.specs.Views.{symbol_at, children_at, equation_at, state_from}
+use Rattle.store.specs.Shape.{Shape}
 use Rattle.store.specs.declared.Terms.{Terms}
 use Rattle.store.specs.declared.Equations.{Equations}
 use Rattle.store.proofs.ViewLaws.{child_known, equations_length, equation_found}
@@ -19,7 +20,7 @@ use Rattle.solve_trace.specs.Steps.{PairsJoined}
 use Rattle.solve_closure.specs.declared.Settling.{Settling}
 use Rattle.solve_closure.specs.Rounds.{Clashing, Closed, Rounds}
 use Rattle.solve_closure.specs.Settled.{Given, ArraysHold, RoundsEnded, Settled}
-use Rattle.solve_trace.proofs.NodeLaws.{functor_found, functor_known, fits, known}
+use Rattle.solve_trace.proofs.NodeLaws.{functor_found, functor_known, fits, known, formed}
 use Rattle.solve_trace.proofs.TraceLaws.{traced_sound}
 
 module _ (g : Terms) (e : Equations) (s : State) (A : Given g e) (H : ArraysHold g e s) where
@@ -78,6 +79,11 @@ module _ (g : Terms) (s : State) (N : Nodes g s) (t : List ℕ) (inside : Sound 
 
     pub exact_of : Exact s t
     exact_of = record { classes = classes_of; table = λ u. refl; has = λ q. same_class s classes_of q; only = inside }
+
+-- well-shaped arrays are what settling asks, and hold their own state
+pub given_shape : (g : Terms) (e : Equations) → Shape g e → Given g e
+given_shape g e S =
+    record { formed = formed g S.terms; most = S.equations.few; lefts = S.equations.lefts; rights = S.equations.rights }
 
 pub holds_state : (g : Terms) (e : Equations) → ArraysHold g e (state_from g e)
 holds_state g e =

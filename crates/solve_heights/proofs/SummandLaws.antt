@@ -49,6 +49,12 @@ left_gone t h c a d =
 pub left_same : (t : List ℕ) (h next : List (Option ℕ)) (c : ℕ) → height_at next c ≡ height_at h c → left_at t h c ≡ left_at t next c
 left_same t h next c e = rw e
 
+pub root_one : (t : List ℕ) (c : ℕ) → class t c ≡ c → root t c ≡ 1
+root_one t c e = rw (eq-eqb _ _ e)
+
+pub root_none : (t : List ℕ) (c : ℕ) → (class t c ≡ c → ⊥) → root t c ≡ 0
+root_none t c d = rw (ne_eqb _ _ d)
+
 pub root_most : (t : List ℕ) (c : ℕ) → root t c ≤ 1
 root_most t c = grind arith
 

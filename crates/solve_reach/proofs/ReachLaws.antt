@@ -54,6 +54,9 @@ all_reached r h d l =
 
 -- ---- the reached classes get more
 
+pub grown_none : (w : Searcher) → Grown w w
+grown_none w = record { start = refl; risen = omega arith; same = λ e. refl; kept = λ d h. h }
+
 grown_more : (a b c : Searcher) → Grown a b → Grown b c → Grown a c
 grown_more a b c A B =
     record {

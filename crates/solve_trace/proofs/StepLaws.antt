@@ -1,5 +1,5 @@
 -- Steps of the solver put together: no step, one more step, one join.
-use Rattle.std.proofs.Common.{◌≡◌, refl, ◌∙◌, inl, inr, List, [], ◌∷◌, ℕ, ◌+◌, ◌<◌, length, get_or, arith, length-append}
+use Rattle.std.proofs.Common.{◌≡◌, refl, ◌∙◌, inl, inr, List, [], ◌∷◌, ℕ, ◌+◌, ◌≤◌, ◌<◌, length, get_or, arith, length-append}
 use borrow.Author.Count.{below_more}
 use Rattle.graph.specs.State.{State}
 use Rattle.solve_classes.specs.Table.{class}
@@ -53,6 +53,9 @@ extends_only S Q into A =
     record { ready = A.ready; more = A.more; same = A.same; grows = A.grows; traced = λ s h T. A.traced s (into s h) T }
 
 module _ (S : State → Type 0) (left right : ℕ → ℕ) where
+  pub pairs_none : (t : List ℕ) (es : List Entry) → TraceFits t es → PairsJoined S left right 0 t es t es
+  pairs_none t es R = record { extends = extends_none S t es R; joined = λ j h. absurd (omega arith) }
+
   -- one more pair of ends, as the code reads them, is joined
   pub pairs_more : (k : ℕ) {x y : ℕ} {e : Entry} {t r p : List ℕ} {es fs gs : List Entry}
       → x ≡ left k → y ≡ right k
@@ -70,6 +73,14 @@ module _ (S : State → Type 0) (left right : ℕ → ℕ) where
             (λ j l. let c = h j (omega arith) in X.grows _ _ c.0 c.1 (P.joined j l))
             (joins_ends b.0 b.1 J');
       }
+
+  -- the next pair of ends is joined already
+  pub pairs_skip : (k : ℕ) {x y : ℕ} {t r : List ℕ} {es fs : List Entry} → PairsJoined S left right k t es r fs
+      → x ≡ left k → y ≡ right k → class r x ≡ class r y → PairsJoined S left right (k + 1) t es r fs
+  pairs_skip k P ex ey e = record { extends = P.extends; joined = below_more _ k P.joined (rw (← ex, ← ey) e) }
+
+  pub pairs_all : (k l : ℕ) {t r : List ℕ} {es fs : List Entry} → l ≤ k → PairsJoined S left right k t es r fs → PairsJoined S left right l t es r fs
+  pairs_all k l h P = record { extends = P.extends; joined = λ j q. P.joined j (omega arith) }
 
 -- joined as two lists have them, in fewer states
 pub pairs_only : (S Q : State → Type 0) (left right : ℕ → ℕ) (xs ys : List ℕ) (k : ℕ) {t r : List ℕ} {es fs : List Entry} → length xs ≡ k

@@ -1,6 +1,6 @@
 -- The rules that the test goes through are together the shape, both ways.
 use mathlib.Core.Path.{◌≡◌, sym, ap, ◌∙◌}
-use mathlib.Core.Bool.{Bool, ◌&&◌}
+use mathlib.Core.Bool.{Bool, true, false, ◌&&◌}
 use mathlib.Core.Logic.{⊎_elim}
 use Prim.Native.Nat.{ℕ, ◌+◌, ◌*◌, ◌/◌, ◌%◌, ◌≤◌, ◌<◌}
 use native.Mathlib.Nat.{mod-lt, div-add-mod}
@@ -15,7 +15,7 @@ use Rattle.store.specs.declared.Equations.{Equations}
 use Rattle.std.proofs.lemmas.Bool.{cases_lt}
 use Rattle.store_shape.specs.Rules.{EachBelow, ZeroFrom, NodeRule, EndRules}
 use Rattle.base.specs.Tells.{Tells, Each}
-use Rattle.base.proofs.TellLaws.{tells_same, tells_both}
+use Rattle.base.proofs.TellLaws.{tells_same, tells_both, tells_not}
 
 -- ---- nodes
 
@@ -100,6 +100,13 @@ module _ (t : Terms) (Z : Sizes t) (few : t.count ≤ node_limit) where
       (tells_both (tells_both tu (tells_both (tells_both (tells_both tk tf) ta) tc)) to)
 
 -- ---- equations
+
+-- a second test is made only where the first passed
+pub tells_then : {P Q : Type 0} {a b : Bool} → Tells P a → a ≡ true → Tells Q b → Tells (P × Q) b
+tells_then t e u = record { holds = λ f. (t.holds e, u.holds f); fails = λ f q. u.fails f q.1 }
+
+pub tells_else : {P Q : Type 0} {a : Bool} → Tells P a → a ≡ false → Tells (P × Q) false
+tells_else t e = tells_not (λ q. t.fails e q.0)
 
 module _ (n : ℕ) (e : Equations) where
   pub tells_ends : {a b c d f : Bool} → Tells (EachBelow e.left n e.count) a → Tells (EachBelow e.right n e.count) b → Tells (ZeroFrom e.name e.count) c

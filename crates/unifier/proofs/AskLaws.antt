@@ -21,6 +21,9 @@ use Rattle.unifier.specs.declared.Workspace.{Workspace}
 -- ---- compare
 
 module _ (w : Workspace) (u v : ℕ) (before : List ℕ) where
+  pub compare_no_workspace : (Valid w → ⊥) → Compares w u v before before (outcome (Err refusal.NotAWorkspace) w)
+  compare_no_workspace bad = record { refuses = λ _. (refl, refl); replies = λ ok. absurd (bad ok); workspace = refl }
+
   pub compare_refused : Valid w → (k : ℕ) → refusal_of (state_of w) u v (length before) ≡ some k → Compares w u v before before (outcome (Err (numbered k)) w)
   compare_refused ok k e = record { refuses = λ bad. absurd (bad ok); replies = λ _. rw e (refl, refl); workspace = refl }
 
@@ -31,6 +34,9 @@ module _ (w : Workspace) (u v : ℕ) (before : List ℕ) where
 -- ---- class
 
 module _ (w : Workspace) (u : ℕ) where
+  pub class_no_workspace : (Valid w → ⊥) → Classifies w u (outcome (Err refusal.NotAWorkspace) w)
+  class_no_workspace bad = record { refuses = λ _. refl; replies = λ ok. absurd (bad ok); workspace = refl }
+
   pub class_unknown : Valid w → w.terms.count ≤ u → Classifies w u (outcome (Err refusal.UnknownNode) w)
   class_unknown ok h = record { refuses = λ bad. absurd (bad ok); replies = λ _. rw (nodes_length w.terms, le-ltb u w.terms.count h) refl; workspace = refl }
 

@@ -2,29 +2,32 @@
 use mathlib.Core.Path.{◌≡◌, refl, sym, ap, ◌∙◌, subst}
 use mathlib.Core.Bool.{Bool, true, false, not, ◌&&◌, cond}
 use mathlib.Core.Logic.{⊎_elim}
-use mathlib.Core.List.{List, []}
-use mathlib.Core.Option.{Option, some}
-use Prim.Native.Nat.{ℕ, ◌*◌, ◌≤◌}
+use mathlib.Core.List.{List, [], ◌∷◌, ◌++◌}
+use mathlib.Core.Option.{Option, none, some}
+use Prim.Native.Nat.{ℕ, ◌+◌, ◌*◌, ◌≤◌, ◌<◌}
 use native.Mathlib.Omega.{arith}
-use lib.ListN.{length, take}
+use lib.ListN.{length, take, length-append}
 use Rattle.std.specs.Prelude.{Result, Ok, Err, Some, None}
 use Rattle.std.specs.declared.option.Option.{Option as Optional}
 use Rattle.proof_rules.specs.declared.Offer.{Offer}
 use Rattle.graph.specs.State.{State, Equation, name_held, offered, with_offer}
-use Rattle.graph.specs.Lines.{line_claims}
-use Rattle.graph.specs.Goals.{Goal, Judgement, passed, refused, broken_line, shows, Ended, ends, breaks, empty, ended, judge_end, judge}
+use Rattle.graph.specs.Lines.{Line, Claim, claim_of, LineClaims, all, broken, on_all, more, line_claims}
+use Rattle.graph.specs.Goals.{Goal, Judgement, passed, refused, broken_line, shows, Ended, ends, breaks, empty, last_of, ended, judge_end, judge}
 use Rattle.refusals.specs.Numbers.{refusal_number, Brought, nothing, proof, place, brings, numbered}
 use Rattle.refusals.proofs.NumberLaws.{proof_number, place_is, numbered_back}
 use Rattle.proof_lines.specs.Codec.{lines_of}
+use Rattle.proof_lines.proofs.Decoding.{lines_length}
 use Rattle.refusals.specs.declared.Refusal.{Refusal}
 use Rattle.refusals.specs.declared.Refusal.TheVariants as refusal
 use Rattle.proof_rules.specs.Rules.{offer_of, both_below, offer_below}
 use Rattle.proof_lines.specs.Proof.{ProofIn}
 use Rattle.proof_check.specs.Answers.{bad_length, refused_as, judged_as, answer_to}
 use Rattle.proof_check.proofs.AnswerLaws.{proof_passes}
+use Rattle.proof_check.proofs.LengthLaws.{length_whole}
 use Rattle.store.proofs.ViewLaws.{nodes_length}
-use Rattle.unifier.specs.Views.{state_of}
-use Rattle.unifier.specs.Check.{goal_below, offer_new, check_reply}
+use Rattle.unifier.specs.Views.{state_of, Valid}
+use Rattle.unifier.specs.Replies.{outcome}
+use Rattle.unifier.specs.Check.{goal_below, offer_new, check_reply, Checks}
 use Rattle.unifier.specs.Inner.{Questioned}
 use Rattle.unifier.specs.declared.Workspace.{Workspace}
 
@@ -39,6 +42,60 @@ module _ (s : State) (e : Equation) (g : Goal) (n : ℕ) (before after : List �
       → name_held e.name s.equations ≡ false → goal_below (length s.nodes) g ≡ true → check_reply s (some e) g (take (8 * n) after) ≡ passed
   proof_checks p r k w q =
       offer_judged s e g (take (8 * n) after) k w q ∙ proof_passes (offered s e) g n before after p (omega (arith, p.kept.size))
+
+-- ---- the line of refusal 12
+
+-- a line that breaks its rule is one of the lines
+broken_within : (s : State) (done : List Claim) (ls : List Line) (k : ℕ) → line_claims s done ls ≡ broken k → k < length done + length ls
+broken_within s done [] k h = cc
+broken_within s done (l ∷ ls) k h = go (claim_of s done l) h (λ c. broken_within s (done ++ (c ∷ [])) ls k)
+  where
+    go : (o : Option Claim) → on_all (more done o) (λ next. line_claims s next ls) ≡ broken k
+        → ((c : Claim) → line_claims s (done ++ (c ∷ [])) ls ≡ broken k → k < length (done ++ (c ∷ [])) + length ls) → k < length done + length (l ∷ ls)
+    go none q r = let e : length done ≡ k = cc in omega arith
+    go (some c) q r = omega (arith, r c q, length-append done (c ∷ []))
+
+-- the line of refusal 12 is a line of a proof
+abbrev pub Reported : Judgement → Type 0
+Reported passed = Unit {0}
+Reported (refused k) = Unit {0}
+Reported (broken_line i) = i < 8192
+
+module _ (s : State) (g : Goal) (bytes : List ℕ) where
+  answer_reported : Reported (answer_to s g bytes)
+  unfolding answer_to
+  answer_reported = go (bad_length (length bytes)) refl
+    where
+      shown : (b : Bool) → Reported (cond b passed (refused 13))
+      shown true = tt
+      shown false = tt
+
+      ending : (e : Ended) → ((k : ℕ) → e ≡ breaks k → k < 8192) → Reported (judge_end s.nodes g e)
+      ending (ends c) h = shown (shows s.nodes g c)
+      ending (breaks k) h = h k refl
+      ending empty h = tt
+
+      last_not : (cs : List Claim) (k : ℕ) → last_of cs ≡ breaks k → ⊥
+      last_not [] k q = cc
+      last_not (c ∷ []) k q = cc
+      last_not (c ∷ (d ∷ ds)) k q = last_not (d ∷ ds) k q
+
+      within : (r : LineClaims) → ((k : ℕ) → r ≡ broken k → k < 8192) → (k : ℕ) → ended r ≡ breaks k → k < 8192
+      within (all cs) h k q = absurd (last_not cs k q)
+      within (broken j) h k q = let e : j ≡ k = cc in h k (rw e refl)
+
+      go : (b : Bool) → bad_length (length bytes) ≡ b → Reported (cond b (refused 11) (judge s g (lines_of bytes)))
+      go true e = tt
+      go false e =
+          ending (ended (line_claims s [] (lines_of bytes)))
+          (within (line_claims s [] (lines_of bytes))
+          (λ k q. omega (arith, broken_within s [] (lines_of bytes) k q, lines_length bytes, (length_whole (length bytes) e).few)))
+
+  pub reported : (j : Judgement) → j ≡ answer_to s g bytes → Reported j
+  reported j e = subst Reported (sym e) answer_reported
+
+pub broken_fits : (r : Result (Unit {0}) Refusal) (i : ℕ) → r ≡ Err (refusal.BrokenLine i) → Reported (judged_as r) → i < 8192
+broken_fits r i e h = rw e at h
 
 -- ---- refusals 4 and 6, or what is asked is judged
 
@@ -58,6 +115,15 @@ module _ (w : Workspace) (o : Option Equation) (g : Goal) where
   pub asked_well : offer_below w.terms.count o ≡ true → goal_below w.terms.count g ≡ true → offer_new (state_of w) o ≡ true → Questioned w o g (Ok tt)
   unfolding check_reply
   asked_well h k r = record { known = h; judged = λ bytes. rw (nodes_length w.terms, h, k, r) }
+
+-- ---- the whole promise
+
+module _ (w : Workspace) (o : Option Equation) (g : Goal) (bytes : List ℕ) where
+  pub check_no_workspace : (Valid w → ⊥) → Checks w o g bytes (outcome (Err refusal.NotAWorkspace) w)
+  check_no_workspace bad = record { refuses = λ _. refl; replies = λ ok. absurd (bad ok); workspace = refl }
+
+  pub check_replied : Valid w → (r : Result (Unit {0}) Refusal) → judged_as r ≡ check_reply (state_of w) o g bytes → Checks w o g bytes (outcome r w)
+  check_replied ok r e = record { refuses = λ bad. absurd (bad ok); replies = λ _. e; workspace = refl }
 
 -- the offered name, by the code's offer
 pub new_of_none : (w : Workspace) (o : Optional Offer) → o ≡ None → offer_new (state_of w) (offer_of o) ≡ true

@@ -168,6 +168,10 @@ module _ (w : Workspace) (e : Equation) (before : List ℕ) where
   equate_refused : (k : Refusal) → brings k ≡ nothing → refusal_number k < 8 → Answers is_held w (book.equate e (length before)) (outcome (Err k) w) → Equates w e before before (outcome (Err k) w)
   equate_refused k b h a = record { answers = a; written = rw b (refl, h) }
 
+  pub equate_no_workspace : (Valid w → ⊥) → Equates w e before before (outcome (Err refusal.NotAWorkspace) w)
+  equate_no_workspace bad =
+      equate_refused refusal.NotAWorkspace refl (omega arith) (no_workspace is_held w (book.equate e (length before)) refusal.NotAWorkspace refl bad)
+
   pub equate_early : Valid w → (k : Refusal) → Early (book.early (state_of w) (book.equate e (length before))) (Err k) → Equates w e before before (outcome (Err k) w)
   equate_early v k h = equate_refused k h.1.0 h.1.1 (early_refused is_held w (book.equate e (length before)) v k h.0)
 
@@ -196,6 +200,9 @@ module _ (w : Workspace) (e : Equation) (before : List ℕ) (v : Valid w) (past 
 module _ (w : Workspace) (e : Equation) (room : ℕ) where
   abbrev decided : Option ℕ
   decided = book.early (state_of w) (book.equate e room)
+
+  pub early_short : room < 65536 → Early decided (Err refusal.ShortBuffer)
+  early_short h = (rw (lt-ltb room 65536 h), (refl, omega arith))
 
   module _ (long : 65536 ≤ room) where
     pub early_unknown : both_below w.terms.count e.left e.right ≡ false → Early decided (Err refusal.UnknownNode)

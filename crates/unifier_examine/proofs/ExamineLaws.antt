@@ -1,4 +1,5 @@
 -- What the shape test and the solver's verdict say of a value.
+use Rattle.std.specs.Prelude.{None}
 use Rattle.std.proofs.Common.{◌≡◌, ◌⊎◌, ⊎_elim, refl, ap, ◌∙◌, sym, List, ℕ, arith}
 use Rattle.graph.specs.Solution.{Solution}
 use Rattle.store.specs.Views.{state_from}
@@ -11,7 +12,7 @@ use Rattle.solve.specs.Decided.{number, Decided}
 use Rattle.solve.specs.declared.SolveResult.{SolveResult}
 use Rattle.solve.specs.declared.Finding.TheVariants as finding
 use Rattle.solve.proofs.VerdictLaws.{solved_just}
-use Rattle.unifier_examine.specs.Examines.{Solved}
+use Rattle.unifier_examine.specs.Examines.{Solved, Examines}
 use Rattle.unifier_examine.proofs.AloneLaws.{traced_alone}
 
 module _ (t : Terms) (e : Equations) {r : SolveResult} {trace : List Entry} (d : Decided (state_from t e) r trace) where
@@ -35,3 +36,7 @@ module _ (t : Terms) (e : Equations) {r : SolveResult} {trace : List Entry} (d :
       (λ w. let n : ◌≡◌ {A = ℕ} 8 0 = sym (ap number w.2) ∙ z in omega arith)
       (λ w. let n : ◌≡◌ {A = ℕ} 9 0 = sym (ap number w) ∙ z in omega arith)
       q
+
+-- another shape is no workspace
+pub misshaped : (t : Terms) (e : Equations) (trace : List Entry) → (Shape t e → ⊥) → Examines t e trace None
+misshaped t e trace bad s x = bad s

@@ -119,6 +119,12 @@ module _ (s : State) where
 pub kept_kept : {buf mid out : List ℕ} {n m : ℕ} → n ≤ m → Kept n buf mid → Kept m mid out → Kept m buf out
 kept_kept h k l = record { size = l.size ∙ k.size; past = λ i g. l.past i g ∙ k.past i (omega arith) }
 
+pub kept_put : {buf out : List ℕ} {n m : ℕ} {l : Line} → m ≡ n + 1 → Put buf n l out → Kept m buf out
+kept_put e p = record { size = p.size; past = λ i h. p.past i (omega arith) }
+
+pub kept_none : {buf : List ℕ} (n : ℕ) → Kept n buf buf
+kept_none n = record { size = refl; past = λ i h. refl }
+
 pub goes_none : (p : Pen) → Continues p p
 goes_none p = record { same_reference = refl; nodes = refl; low = omega arith; kept = record { size = refl; past = λ i h. refl } }
 
