@@ -166,9 +166,7 @@ pub struct Claims {
 
 impl Claims {
     pub fn none() -> Claims {
-        Claims {
-            lines: List::new(),
-        }
+        Claims { lines: List::new() }
     }
 
     // An earlier line's.

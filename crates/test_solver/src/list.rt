@@ -1,11 +1,20 @@
 // A list of at most N values. The test's own: it shares no type with what it is held against.
 ghost use Rattle.std.specs.Prelude.{◌≤◌, length};
 
-#[derive(Clone, Copy)]
+use std::alloc::AllocError;
+
+#[derive(Copy)]
 pub struct List<T: Copy, const N: usize> {
     cells: [T; N],
     count: usize,
     ghost fits: { count ≤ N },
+}
+
+// By hand: none is derived beside a ghost field.
+impl<T: Copy, const N: usize> Clone for List<T, N> {
+    fn clone(&self) -> Result<Self, AllocError> {
+        Ok(*self)
+    }
 }
 
 impl<T: Copy + Default, const N: usize> List<T, N> {
@@ -38,7 +47,7 @@ impl<T: Copy + Default, const N: usize> List<T, N> {
 
     /// One more, unless the list is full: then it stays, and the answer is false.
     pub fn push(&mut self, x: T) -> bool {
-        if self.is_full() {
+        if self.count >= N {
             return false;
         }
         self.cells[self.count] = x;
@@ -48,7 +57,10 @@ impl<T: Copy + Default, const N: usize> List<T, N> {
 
     /// Takes out the one at a place, if there is one.
     pub fn take_out(&mut self, k: usize) -> Option<T> {
-        let x = *self.as_slice().get(k)?;
+        if k >= self.count {
+            return None;
+        }
+        let x = self.cells[k];
         self.cells.copy_within(k + 1..self.count, k);
         self.count -= 1;
         Some(x)
