@@ -5,6 +5,7 @@ use Rattle.std.specs.Prelude.{◌↔◌, Some, None, Result, Ok, Err, IsOk, OnOk
 use Rattle.std.specs.List.{slice_split, onto_first}
 use Rattle.std.proofs.Math.Option as math
 use Rattle.std.proofs.lemmas.List.{take_all, take-append-le, length-append, at_drop_more, at_drop_all}
+use Rattle.bounded_list.specs.Bounded.{Bounded, holding}
 use Rattle.graph.specs.Lines.{try}
 use Rattle.eqtrace_orders.specs.Grammar.{on_first, split, number_in, numbers_of}
 use Rattle.eqtrace_orders.specs.Parse.{handed_on, six_of, words_found}
@@ -82,14 +83,15 @@ some_part at (x ∷ xs) = go (eqb x at)
     go false = onto_some (split at xs)
 
 -- words that are numbers: there is one
-some_words : (o : math.Option (List ℕ)) (n : math.Option ℕ) (v : ArrayVec ℕ) → six_of (try n (λ x. try o (λ l. math.some (x ∷ l)))) ≡ Some v → 1 ≤ length v.items
+some_words : (o : math.Option (List ℕ)) (n : math.Option ℕ) (v : Bounded ℕ) → six_of (try n (λ x. try o (λ l. math.some (x ∷ l)))) ≡ Some v → 1 ≤ length v.items
 some_words o math.none v e = cc
 some_words math.none (math.some x) v e = cc
 some_words (math.some l) (math.some x) v e =
-    let z : v.items ≡ x ∷ take 5 l = ap (λ (r : ArrayVec ℕ). r.items) (cc) in
+    let h : v ≡ holding (x ∷ take 5 l) 0 = cc in
+    let z : v.items ≡ x ∷ take 5 l = ap (λ (r : Bounded ℕ). r.items) h in
     rw z (omega arith)
 
-pub collected_some : (l : List ℕ) (v : ArrayVec ℕ) → words_found l ≡ Some v → 1 ≤ length v.items
+pub collected_some : (l : List ℕ) (v : Bounded ℕ) → words_found l ≡ Some v → 1 ≤ length v.items
 collected_some l v = go (split 32 l) (some_part 32 l)
   where
     go : (ws : List (List ℕ)) → 1 ≤ length ws → six_of (numbers_of ws) ≡ Some v → 1 ≤ length v.items
