@@ -9,9 +9,7 @@ fn solved_alike(w: &Workspace) -> u8 {
     let (mut a, mut b) = ([0; 64], [0; 64]);
     let m = w.equations.count;
     let (c, v) = plain::solve(&w.terms, &w.equations, m, &mut a);
-    let mut d = rattle::Settled::new();
-    let k = rattle::solve(&w.terms, &w.equations, &mut d, &mut b);
-    let d = d.plain();
+    let (d, k) = rattle::solve(&w.terms, &w.equations, m, &mut b);
     assert!(v == k && c.table == d.table && c.trace == d.trace && c.steps == d.steps && c.clash == d.clash && a == b);
     v
 }

@@ -36,13 +36,12 @@ fn solve_rows(all: &[Workload]) {
         let rust = || {
             let mut height = [0; 64];
             let (c, v) = plain::solve(black_box(&w.terms), &w.equations, w.equations.count, &mut height);
-            black_box((&c, v, &height));
+            black_box((c.table, c.trace, v, height));
         };
         let rattle = || {
             let mut height = [0; 64];
-            let mut c = rattle::Settled::new();
-            let v = rattle::solve(black_box(&w.terms), &w.equations, &mut c, &mut height);
-            black_box((&c, v, &height));
+            let (c, v) = rattle::solve(black_box(&w.terms), &w.equations, w.equations.count, &mut height);
+            black_box((c.table, c.trace, v, height));
         };
         let rounds = plain::count_rounds(&w.terms, &w.equations);
         row(&format!("{}, {rounds} rounds", l.name), &mut [Side::of(rust), Side::of(rattle)]);

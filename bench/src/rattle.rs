@@ -10,57 +10,46 @@ struct Ending {
 }
 
 type Bytes = [u8; 64];
-type Rows = [[u16; 4]; 64];
+type Words = [u16; 64];
+type Long = [u8; 256];
+type Names = [u16; 256];
 
 extern "C" {
-    fn ffi_shaped(t: &Terms, e: &Equations) -> bool;
-    fn ffi_settle(table: &mut Table, trace: &mut Rows, t: &Terms, e: &Equations) -> Ending;
-    fn ffi_peel(table: &Table, height: &mut Bytes, t: &Terms) -> u8;
+    fn ffi_shaped(
+        n: usize, kind: &Bytes, symbol: &Words, arity: &Bytes, child: &Long, m: usize, name: &Names, left: &Long, right: &Long,
+    ) -> bool;
+    fn ffi_settle(
+        table: &mut Table, trace: &mut Trace, n: usize, kind: &Bytes, symbol: &Words, arity: &Bytes, child: &Long, m: usize, left: &Long,
+        right: &Long,
+    ) -> Ending;
+    fn ffi_peel(table: &Table, height: &mut Bytes, n: usize, kind: &Bytes, symbol: &Words, arity: &Bytes, child: &Long) -> u8;
 }
 
 pub fn shaped(w: &Workspace) -> bool {
-    unsafe { ffi_shaped(&w.terms, &w.equations) }
+    let (t, e) = (&w.terms, &w.equations);
+    unsafe { ffi_shaped(t.count, &t.kind, &t.symbol, &t.arity, &t.child, e.count, &e.name, &e.left, &e.right) }
 }
 
-// The trace as the library hands it over: 0 and an equation's place, or 1, two nodes and a place.
-pub struct Settled {
-    pub table: Table,
-    pub rows: Rows,
-    pub steps: usize,
-    pub clash: Option<(u8, u8)>,
-}
-
-impl Settled {
-    pub fn new() -> Settled {
-        Settled { table: [0; 64], rows: [[0; 4]; 64], steps: 0, clash: None }
-    }
-
-    fn close(&mut self, t: &Terms, e: &Equations) {
-        let r = unsafe { ffi_settle(&mut self.table, &mut self.rows, t, e) };
-        self.clash = if r.clash { Some((r.left as u8, r.right as u8)) } else { None };
-        self.steps = r.steps;
-    }
-
-    // In the plain solver's form, to be held against it.
-    pub fn plain(&self) -> Closure {
-        let mut trace: Trace = [0; 64];
-        for (x, r) in trace.iter_mut().zip(&self.rows[..self.steps]) {
-            *x = if r[0] == 0 { r[1] } else { (r[3] + 1) * 4096 + r[1] * 64 + r[2] };
-        }
-        Closure { table: self.table, trace, steps: self.steps, clash: self.clash }
-    }
+pub fn close(t: &Terms, e: &Equations, m: usize) -> Closure {
+    let mut c = Closure { table: [0; 64], trace: [0; 64], steps: 0, clash: None };
+    let r = unsafe {
+        ffi_settle(&mut c.table, &mut c.trace, t.count, &t.kind, &t.symbol, &t.arity, &t.child, m, &e.left, &e.right)
+    };
+    c.steps = r.steps;
+    c.clash = if r.clash { Some((r.left as u8, r.right as u8)) } else { None };
+    c
 }
 
 pub fn peel(t: &Terms, table: &Table, height: &mut Bytes) -> u8 {
-    unsafe { ffi_peel(table, height, t) }
+    unsafe { ffi_peel(table, height, t.count, &t.kind, &t.symbol, &t.arity, &t.child) }
 }
 
-// The verdict; the rest is put where it is lent.
-pub fn solve(t: &Terms, e: &Equations, c: &mut Settled, height: &mut Bytes) -> u8 {
-    c.close(t, e);
-    match c.clash {
+pub fn solve(t: &Terms, e: &Equations, m: usize, height: &mut Bytes) -> (Closure, u8) {
+    let c = close(t, e, m);
+    let v = match c.clash {
         Some(_) => 8,
         None if peel(t, &c.table, height) == 0 => 0,
         None => 9,
-    }
+    };
+    (c, v)
 }
