@@ -19,7 +19,15 @@ impl Workspace {
             return Err(Refusal::UnknownNode);
         }
         let (x, y) = (u as u8, v as u8);
-        let s = unifier_respond::stand(proof, &self.terms, &self.equations, table, trace.as_slice(), x, y);
+        let s = unifier_respond::stand(
+            proof,
+            &self.terms,
+            &self.equations,
+            table,
+            trace.as_slice(),
+            x,
+            y,
+        );
         Ok(s)
     }
 
