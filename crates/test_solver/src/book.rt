@@ -1,20 +1,20 @@
 // The test's own book: the nodes that were declared and the equations that are held, each in the order taken.
 ghost use Rattle.std.specs.Prelude.{◌≤◌, length};
 
-use super::list::List;
+use super::stock::Stock;
 
 /// A symbol and its children, at most four.
 #[derive(Clone, Copy)]
 pub struct Functor {
     pub symbol: u16,
-    children: List<u16, 4>,
+    children: Stock<u16, 4>,
 }
 
 impl Functor {
     pub fn new(symbol: u16, children: &[u16]) -> Functor
         requires { length children.now ≤ 4 }
     {
-        let mut four = List::new();
+        let mut four = Stock::new();
         for child in children {
             four.push(*child);
         }
@@ -63,15 +63,15 @@ pub struct Equation {
 
 #[derive(Clone, Copy)]
 pub struct Book {
-    pub nodes: List<Node, 64>,
-    pub held: List<Equation, 256>,
+    pub nodes: Stock<Node, 64>,
+    pub held: Stock<Equation, 256>,
 }
 
 impl Book {
     pub fn new() -> Book {
         Book {
-            nodes: List::new(),
-            held: List::new(),
+            nodes: Stock::new(),
+            held: Stock::new(),
         }
     }
 

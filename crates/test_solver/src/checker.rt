@@ -1,6 +1,6 @@
 // The other checker.
 use super::book::{Book, Equation};
-use super::list::List;
+use super::stock::Stock;
 
 #[derive(Clone, Copy, PartialEq, Eq, Debug, Default)]
 pub enum Relation {
@@ -161,12 +161,12 @@ fn knows(book: &Book, x: Question) -> bool {
 /// What each line of a proof claims, up to the first that breaks its rule.
 #[derive(Drop)]
 pub struct Claims {
-    lines: List<Claim, 8192>,
+    lines: Stock<Claim, 8192>,
 }
 
 impl Claims {
     pub fn none() -> Claims {
-        Claims { lines: List::new() }
+        Claims { lines: Stock::new() }
     }
 
     // An earlier line's.

@@ -4,4 +4,4 @@
 pub mod book; // nodes and held equations
 pub mod checker; // what a proof is owed
 pub mod closure; // same and below
-pub mod list; // a list of at most so many values
+pub mod stock; // a list of at most so many values

@@ -1,25 +1,25 @@
-// A list of at most N values. The test's own: it shares no type with what it is held against.
+// A stock: a list of at most N values. The test's own: it shares no type with what it is held against.
 ghost use Rattle.std.specs.Prelude.{◌≤◌, length};
 
 use std::alloc::AllocError;
 
 #[derive(Copy)]
-pub struct List<T: Copy, const N: usize> {
+pub struct Stock<T: Copy, const N: usize> {
     cells: [T; N],
     count: usize,
     ghost fits: { count ≤ N },
 }
 
 // By hand: none is derived beside a ghost field.
-impl<T: Copy, const N: usize> Clone for List<T, N> {
+impl<T: Copy, const N: usize> Clone for Stock<T, N> {
     fn clone(&self) -> Result<Self, AllocError> {
         Ok(*self)
     }
 }
 
-impl<T: Copy + Default, const N: usize> List<T, N> {
+impl<T: Copy + Default, const N: usize> Stock<T, N> {
     pub fn new() -> Self {
-        List {
+        Stock {
             cells: [T::default(); N],
             count: 0,
         }
