@@ -166,7 +166,9 @@ pub struct Claims {
 
 impl Claims {
     pub fn none() -> Claims {
-        Claims { lines: Stock::new() }
+        Claims {
+            lines: Stock::new(),
+        }
     }
 
     // An earlier line's.
