@@ -12,7 +12,8 @@ module _ {T : Type 0} {n : ℕ} where
   pub filled_at : {k : ℕ} {cells : List T} {b : T} → Filled n k cells b → (i : ℕ) (d : T) → k ≤ i → i < n → get_or cells i d ≡ b
   filled_at {k} {cells} {b} F i d l m = ap (λ xs. get_or xs i d) F.blanks ∙ grind (arith, places, F.fits, F.size)
 
-  pub filled : (k : ℕ) (cells : List T) (b : T) → k ≤ n → length cells ≡ n → ((i : ℕ) (d : T) → k ≤ i → i < n → get_or cells i d ≡ b) → Filled n k cells b
+  pub filled : (k : ℕ) (cells : List T) (b : T) → k ≤ n → length cells ≡ n
+      → ((i : ℕ) (d : T) → k ≤ i → i < n → get_or cells i d ≡ b) → Filled n k cells b
   filled k cells b l e at = record {
     fits = l;
     size = e;
@@ -43,7 +44,9 @@ module _ {T : Type 0} {n k : ℕ} {cells : List T} {b : T} (F : Filled n k cells
 
   module _ (i : ℕ) (h : i < k) where
     pub moved : Filled n k (copy_within cells (i + 1) k i) b
-    moved = filled k _ b F.fits (grind (arith, places, F.size, F.fits, h)) (λ j d l m. grind (arith, places, filled_at F j d, F.size, F.fits, h, l, m))
+    moved =
+        filled k _ b F.fits (grind (arith, places, F.size, F.fits, h))
+        (λ j d l m. grind (arith, places, filled_at F j d, F.size, F.fits, h, l, m))
 
     -- without its last, the part in use is what is left of it without place i
     pub moved_items : (xs : List T) → xs ≡ take k (copy_within cells (i + 1) k i) → take (length xs - 1) xs ≡ remove (take k cells) i

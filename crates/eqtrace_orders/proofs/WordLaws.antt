@@ -1,10 +1,10 @@
 -- The words of an order, read one after the other as numbers.
 use mathlib.Core.Bool.{Bool, true, false}
 use Rattle.std.proofs.Common.{◌≡◌, ℕ, zero, suc, ◌+◌, ◌≤◌, ◌<◌, List, [], ◌∷◌, ◌++◌, length, take, drop, get_or, cond, eqb, refl, sym, ap, ◌∙◌, append_assoc, arith}
-use Rattle.std.specs.Prelude.{◌↔◌, Some, None, Result, Ok, Err, IsOk, OnOk, OnErr}
+use Rattle.std.specs.Prelude.{Some, None}
 use Rattle.std.specs.List.{slice_split, onto_first}
 use Rattle.std.proofs.Math.Option as math
-use Rattle.std.proofs.lemmas.List.{take_all, take-append-le, length-append, at_drop_more, at_drop_all}
+use Rattle.std.proofs.lemmas.List.{at_drop_more, at_drop_all}
 use Rattle.bounded_list.specs.Bounded.{Bounded, holding}
 use Rattle.graph.specs.Lines.{try}
 use Rattle.eqtrace_orders.specs.Grammar.{on_first, split, number_in, numbers_of}

@@ -31,8 +31,8 @@ fn walk(t: &Terms, e: &Equations, offer: Option<Offer>, bytes: &[u8]) -> Result<
     ensures end { walked result ≡ ended (line_claims (with_offer (state_from t.now e.now) (offer_of offer)) [] (lines_of bytes.now)) }
     ensures within { IfErr result (λ i. i < line_limit) }
 {
-    // An array, with the loop's own index: as an `ArrayVec`, with `push` and `as_slice`, a line took 1.00 to 1.23 times Rust's time, and not 0.87
-    // to 0.94; with `push(c)`, and not field by field, 1.18 to 1.50; the goal is 1.2.
+    // An array, with the loop's own index: as an `ArrayVec` of the toolchain, with `push` and `as_slice`, a line took 1.00 to 1.23 times Rust's
+    // time, and not 0.87 to 0.94; with `push(c)`, and not field by field, 1.18 to 1.50; the goal is 1.2.
     let mut claims = [Claim::same(0, 0); 8192];
     let count = bytes.len() / 8;
     for i in 0..count {

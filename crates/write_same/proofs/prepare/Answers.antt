@@ -10,8 +10,10 @@ trim-requires-clause-in_range c = rw (c.extend_from_slice.ensures, c.new-needed.
 pub invariant_of-replay-clause-in_range : goal.invariant_of-replay-clause-in_range
 invariant_of-replay-clause-in_range c =
     let G = c.args.grounds.now in
-    rw c.as_slice.ensures.value (among_all (InRange G.t.now G.e.now) _ _ (rw (c.extend_from_slice.ensures, c.new-needed.ensures) at c.trim.ensures).among G.in_range)
+    let T = rw (c.extend_from_slice.ensures, c.new-needed.ensures) at c.trim.ensures in
+    rw c.as_slice.ensures.value (among_all (InRange G.t.now G.e.now) _ _ T.among G.in_range)
 
 pub returns-clause-prepared : goal.returns-clause-prepared
 returns-clause-prepared c =
-    prepared c.args.grounds.now.few_entries (rw (c.extend_from_slice.ensures, c.new-needed.ensures) at c.trim.ensures) c.start-pen.ensures.started (rw c.as_slice.ensures.value at c.replay.ensures)
+    let T = rw (c.extend_from_slice.ensures, c.new-needed.ensures) at c.trim.ensures in
+    prepared c.args.grounds.now.few_entries T c.start-pen.ensures.started (rw c.as_slice.ensures.value at c.replay.ensures)

@@ -10,4 +10,5 @@ invariant_of-self g c = rw c.copy_from_slice.ensures.after (extended c.self.inva
 
 pub returns : goal.returns
 returns g c =
-    rw (← c.self.view_is, c.copy_from_slice.ensures.after) (ap (λ xs. holding xs c.self.inside.blank) (extended_items c.self.invariant _ (search rules)))
+    rw (← c.self.view_is, c.copy_from_slice.ensures.after)
+    (ap (λ xs. holding xs c.self.inside.blank) (extended_items c.self.invariant _ (search rules)))

@@ -11,4 +11,5 @@ invariant_of-self g c = rw c.copy_within.ensures.after (moved c.self.invariant _
 
 pub returns : goal.returns
 returns g c =
-    c.pop.ensures ∙ rw (← c.self.view_is) (ap (λ xs. holding xs c.self.inside.blank) (moved_items c.self.invariant _ (search rules) _ (ap (take c.self.inside.count) c.copy_within.ensures.after)))
+    let moves = ap (take c.self.inside.count) c.copy_within.ensures.after in
+    c.pop.ensures ∙ rw (← c.self.view_is) (ap (λ xs. holding xs c.self.inside.blank) (moved_items c.self.invariant _ (search rules) _ moves))
