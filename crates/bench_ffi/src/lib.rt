@@ -2,17 +2,16 @@
 // hands on to the crate that does the work, with that crate's promise. Nobody proves of a C caller what a `requires` asks: it owes it.
 #![tactic(auto)]
 
-ghost use Rattle.std.specs.Prelude.{◌≡◌, ◌≤◌, List, length, map, take, replicate};
+ghost use Rattle.std.specs.Prelude.{◌≡◌, ℕ, ◌≤◌, ◌<◌, length, map, take, None};
 ghost use Rattle.std.specs.List.{All};
-ghost use Rattle.graph.specs.Limits.{equation_limit};
 ghost use Rattle.base.specs.Tells.{Tells};
 ghost use Rattle.store.specs.Views.{terms, equations};
 ghost use Rattle.store.specs.Shape.{Shape};
 ghost use Rattle.store.specs.declared.Terms.{Terms};
-ghost use Rattle.store.specs.declared.Equations.{Equations};
 ghost use Rattle.solve_classes.specs.Table.{Table};
 ghost use Rattle.solve_trace.specs.Nodes.{Formed};
 ghost use Rattle.solve_closure.specs.Settled.{Given};
+ghost use Rattle.solve_heights.specs.Peel.{height_at};
 ghost use Rattle.write_needed.specs.Entries.{Placed};
 ghost use Rattle.bench_ffi.specs.Parts.{SettlesAs, PeelsAs, height_number, entry_number, unnamed};
 
@@ -143,6 +142,19 @@ fn height_as_number(h: Option<u8>) -> u8
     h.unwrap_or(255)
 }
 
+// The heights as numbers. Only the first `n` are looked at, as a class has the number of one of its nodes: all 64 took as long as the peel
+// of 8 nodes.
+fn put_heights(height: &mut [u8; 64], heights: &[Option<u8>; 64], n: usize)
+    requires few { n ≤ 64 }
+    requires unused { (c : ℕ) → n ≤ c → c < 64 → height_at heights.now c ≡ None }
+    ensures { height.new ≡ map height_number heights.now }
+{
+    *height = [255; 64];
+    for (c, x) in heights[..n].iter().enumerate() {
+        height[c] = height_as_number(*x);
+    }
+}
+
 // The heights of a table's classes, and how many classes have none.
 #[unsafe(no_mangle)]
 pub extern "C" fn ffi_peel(
@@ -159,8 +171,6 @@ pub extern "C" fn ffi_peel(
     ensures { let g : Terms = terms n kind.now symbol.now arity.now child.now in PeelsAs g table.now height.new result }
 {
     let h = solve_heights::peel(*table, &terms_of(n, kind, symbol, arity, child));
-    for (c, x) in h.height.iter().enumerate() {
-        height[c] = height_as_number(*x);
-    }
+    put_heights(height, &h.height, n);
     h.left
 }

@@ -1,5 +1,4 @@
 -- `bench_ffi::ffi_settle` meets its contract.
-use Rattle.std.proofs.Common.{rules}
 use Rattle.bench_ffi.proofs.PlacedLaws.{settled_placed}
 use Rattle.bench_ffi.proofs.ffi_settle.Goals as goal
 
