@@ -4,7 +4,8 @@
 --   Away         a value that is no workspace: refusal 1 from every call but clear, and nothing changed
 --   Unchanged    a workspace: a refusal leaves it, and the lent bytes but for the lines of 8 and 9
 --   OneReply     a call on a workspace has one reply, line counts aside (`uncounted`, `uncounted_stance`), and leaves one workspace
---   FromCheck, FromShorter   the values of the results that check and shorter-of-two give: all that bring no proof
+--   FromCheck, FromShorter   values of the results of check and of shorter-of-two, all that these give among them: of check all that bring no
+--                lines of a proof, of shorter-of-two without a list all that bring nothing
 --   OneValue     of check and of shorter-of-two each reply is one value of the result, and that value says one reply
 use Rattle.std.specs.Prelude.{◌≡◌, cond, List, ℕ, eqb, Result, Ok, Err, Some, None}
 use Rattle.std.specs.declared.option.Option.{Option as Optional}
@@ -106,7 +107,7 @@ FromShorter (Ok l) = Unit {0}
 FromShorter (Err n) = ForList n.list (brings n.refusal)
 
 -- what is replied to a judgement, and to a choice, is one value, and that value says just it; of what is no workspace, refusal 1.
--- `check_one`, `choice_one`: so each value that the calls give is the only one that says what it says, whether any call gives it or not
+-- `check_one`, `choice_one`: of `FromCheck` and `FromShorter` each value, whether a call gives it or not, is the only one that says what it says
 pub record OneValue : Type 0 where
   pub checked_as : Judgement → Result (Unit {0}) Refusal
   pub check_there : (s : State) (o : Option Equation) (g : Goal) (bytes : List ℕ) (r : Result (Unit {0}) Refusal) → judged_as r ≡ check_reply s o g bytes
