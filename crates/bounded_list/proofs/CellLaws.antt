@@ -1,6 +1,6 @@
 -- The cells of a bounded list, after each change of them.
-use Rattle.std.proofs.Common.{◌≡◌, ◌∙◌, ap, ap₂, List, ◌++◌, ℕ, ◌+◌, ◌-◌, ◌<◌, ◌≤◌, length, take, drop, get_or, slice_set, arith}
-use Rattle.std.specs.List.{remove}
+use Rattle.std.proofs.Common.{◌≡◌, ◌∙◌, ap, ap₂, List, ◌++◌, ℕ, ◌+◌, ◌-◌, ◌<◌, ◌≤◌, length, take, get_or, slice_set, arith}
+use Rattle.std.specs.List.{remove, copy_within}
 use Rattle.std.proofs.lemmas.List.{places, same_lists, length-set, get_or-set_same, get_or-set_other}
 use Rattle.std.proofs.lemmas.Bool.{cases_eq}
 use mathlib.Core.Logic.{⊎_elim}
@@ -42,29 +42,15 @@ module _ {T : Type 0} {n k : ℕ} {cells : List T} {b : T} (F : Filled n k cells
   pub extended_items : (xs : List T) → k + length xs ≤ n → take (k + length xs) (put_mid k (k + length xs - k) cells xs) ≡ take k cells ++ xs
   extended_items xs h = same_lists _ _ (grind (arith, places, F.size, h)) (λ i d l. grind (arith, places, F.size, h, l))
 
-  -- the part in use from place i on, turned by m
-  abbrev pub turned : ℕ → ℕ → List T
-  turned m i = drop m (take (k - i) (drop i cells)) ++ take m (take (k - i) (drop i cells))
-
-  -- turned by one, its first comes last; as a variable, since `take` and `drop` compute at a number
-  module _ (m i : ℕ) (o : m ≡ 1) (h : i < k) (ys : List T) (q : ys ≡ turned m i) where
-    size : length ys ≡ k - i
-    size = q2 ∙ grind (arith, places, o, F.size, F.fits, h)
-      where
-        q2 : length ys ≡ length (turned m i)
-        q2 = ap length q
-
-    at : (j : ℕ) (d : T) → j + 1 < k - i → get_or ys j d ≡ get_or cells (i + (j + 1)) d
-    at j d l = ap (λ zs. get_or zs j d) q ∙ grind (arith, places, o, F.size, F.fits, h, l)
-
-    pub moved : Filled n k (put_mid i (k - i) cells ys) b
+  module _ (i : ℕ) (h : i < k) where
+    pub moved : Filled n k (copy_within cells (i + 1) k i) b
     moved =
-        filled k _ b F.fits (grind (arith, places, size, F.size, F.fits, h))
-        (λ j d l e. grind (arith, places, filled_at F j d, size, F.size, F.fits, h, l, e))
+        filled k _ b F.fits (grind (arith, places, F.size, F.fits, h))
+        (λ j d l m. grind (arith, places, filled_at F j d, F.size, F.fits, h, l, m))
 
     -- without its last, the part in use is what is left of it without place i
-    pub moved_items : (xs : List T) → xs ≡ take k (put_mid i (k - i) cells ys) → take (length xs - 1) xs ≡ remove (take k cells) i
+    pub moved_items : (xs : List T) → xs ≡ take k (copy_within cells (i + 1) k i) → take (length xs - 1) xs ≡ remove (take k cells) i
     moved_items xs e =
-        let long : length xs ≡ k = ap length e ∙ grind (arith, places, size, F.size, F.fits, h) in
-        ap₂ (λ l zs. take (l - 1) zs) long e
-        ∙ same_lists _ _ (grind (arith, places, size, F.size, F.fits, h)) (λ j d l. grind (arith, places, at (j - i) d, size, F.size, F.fits, h, l))
+        let size : length xs ≡ k = ap length e ∙ grind (arith, places, F.size, F.fits, h) in
+        ap₂ (λ m l. take (m - 1) l) size e
+        ∙ same_lists _ _ (grind (arith, places, F.size, F.fits, h)) (λ j d l. grind (arith, places, F.size, F.fits, h, l))

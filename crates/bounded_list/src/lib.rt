@@ -127,9 +127,7 @@ impl<T: Copy, const N: usize> BoundedList<T, N> {
         requires { i < length self.old.items }
         ensures { self.new ≡ holding (remove self.old.items i) self.old.blank }
     {
-        // Not by `copy_within`, for which C would have to bring a memmove.
-        let cells = &mut self.cells[..];
-        cells[i..self.count].rotate_left(1);
+        self.cells.copy_within(i + 1..self.count, i);
         self.pop();
     }
 
