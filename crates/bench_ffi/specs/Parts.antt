@@ -1,13 +1,10 @@
 -- What the parts of the engine promise a C caller: the promise of the crate that does the work, in numbers.
---   height_number   a height, 255 for none
 --   entry_number    an entry of a trace in 16 bits: an equation's place, below 4,096; or a place of children, counted from 1, and two nodes
---   unnamed         equations by their ends alone: settling asks for no names
 --   SettlesAs       a settled closure, its table, its trace and how it ended
---   PeelsAs         the heights of a table's classes, and how many have none
-use Rattle.std.specs.Prelude.{◌≡◌, true, false, List, map, replicate, ℕ, ◌+◌, ◌*◌, length, take, Option, Some, None}
-use Rattle.graph.specs.Limits.{equation_limit}
+--   PeelsAs         the heights of a table's classes as bytes (byte_option's), and how many have none
+use Rattle.std.specs.Prelude.{◌≡◌, true, false, List, map, ℕ, ◌+◌, ◌*◌, length, take, Option, Some, None}
+use Rattle.byte_option.specs.Bytes.{byte_of}
 use Rattle.graph.specs.State.{State}
-use Rattle.store.specs.Views.{equations}
 use Rattle.store.specs.declared.Terms.{Terms}
 use Rattle.store.specs.declared.Equations.{Equations}
 use Rattle.solve_trace.specs.declared.Entry.{Entry}
@@ -18,16 +15,9 @@ use Rattle.solve_heights.specs.Peel.{Peeled}
 use Rattle.solve_heights.specs.declared.Heights.{Heights}
 use Rattle.bench_ffi.specs.declared.Ending.{Ending}
 
-abbrev pub height_number : Option ℕ → ℕ
-height_number None = 255
-height_number (Some h) = h
-
 abbrev pub entry_number : Entry → ℕ
 entry_number (entry.Equation k) = k
 entry_number (entry.Children u v j) = (j + 1) * 4096 + u * 64 + v
-
-abbrev pub unnamed : ℕ → List ℕ → List ℕ → Equations
-unnamed m left right = equations m (replicate equation_limit 0) left right
 
 -- how the closure ended, where there is a clash and where there is none
 abbrev pub Ends : Option (ℕ × ℕ) → Ending → Type 0
@@ -46,5 +36,5 @@ pub record SettlesAs (g : Terms) (e : Equations) (t : List ℕ) (trace : List �
 pub record PeelsAs (g : Terms) (table height : List ℕ) (left : ℕ) : Type 0 where
   pub heights : Heights
   pub peeled : Peeled g table heights
-  pub numbers : height ≡ map height_number heights.height
+  pub numbers : height ≡ map byte_of heights.height
   pub count : left ≡ heights.left

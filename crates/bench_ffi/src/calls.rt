@@ -1,4 +1,5 @@
 // The calls of `unifier`, their replies as three numbers, since C has no enums with values: see `in_numbers`. None asks anything of its caller.
+// Three take the workspace out of the outcome first: else the compiler makes its copy at the end a memmove, which the archive wants from outside.
 ghost use Rattle.std.specs.Prelude.{◌≡◌};
 ghost use Rattle.std.proofs.Math.Option.{none};
 ghost use Rattle.graph.specs.State.{functor, equation_of};
@@ -60,11 +61,12 @@ pub extern "C" fn ffi_withdraw(w: Workspace, name: u16, numbers: &mut [u16; 3]) 
     ensures { ByNumbers (Answers is_gone w (book.withdraw name)) (in_numbers gone_numbers) numbers.new result }
 {
     let o = w.withdraw(name);
+    let workspace = o.workspace;
     *numbers = match o.reply {
         Ok(()) => [3, 0, 0],
         Err(r) => refused(r),
     };
-    o.workspace
+    workspace
 }
 
 #[unsafe(no_mangle)]
@@ -97,11 +99,12 @@ pub extern "C" fn ffi_compare(
     ensures { ByNumbers (Compares w u v proof.old proof.new) (in_numbers stance_numbers) numbers.new result }
 {
     let o = w.compare(u, v, proof);
+    let workspace = o.workspace;
     *numbers = match o.reply {
         Ok(s) => stance(s),
         Err(r) => refused(r),
     };
-    o.workspace
+    workspace
 }
 
 #[unsafe(no_mangle)]
@@ -128,9 +131,10 @@ pub extern "C" fn ffi_check_same(
     ensures { ByNumbers (Checks w none (same_goal u v) lines.now) (in_numbers passed_numbers) numbers.new result }
 {
     let o = w.check(None, lines, GoalAsked::Same(u, v));
+    let workspace = o.workspace;
     *numbers = match o.reply {
         Ok(()) => [9, 0, 0],
         Err(r) => refused(r),
     };
-    o.workspace
+    workspace
 }

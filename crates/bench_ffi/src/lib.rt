@@ -2,44 +2,26 @@
 // hands on to the crate that does the work, with that crate's promise. Nobody proves of a C caller what a `requires` asks: it owes it.
 #![tactic(auto)]
 
-ghost use Rattle.std.specs.Prelude.{◌≡◌, ℕ, ◌≤◌, ◌<◌, length, map, take, None};
+ghost use Rattle.std.specs.Prelude.{◌≡◌, ◌≤◌, length, map, take};
 ghost use Rattle.std.specs.List.{All};
+ghost use Rattle.byte_option.specs.Bytes.{byte_of};
 ghost use Rattle.base.specs.Tells.{Tells};
-ghost use Rattle.store.specs.Views.{terms, equations};
+ghost use Rattle.store.specs.Views.{terms, equations, unnamed};
 ghost use Rattle.store.specs.Shape.{Shape};
 ghost use Rattle.store.specs.declared.Terms.{Terms};
 ghost use Rattle.solve_classes.specs.Table.{Table};
 ghost use Rattle.solve_trace.specs.Nodes.{Formed};
 ghost use Rattle.solve_closure.specs.Settled.{Given};
-ghost use Rattle.solve_heights.specs.Peel.{height_at};
 ghost use Rattle.write_needed.specs.Entries.{Placed};
-ghost use Rattle.bench_ffi.specs.Parts.{SettlesAs, PeelsAs, height_number, entry_number, unnamed};
+ghost use Rattle.bench_ffi.specs.Parts.{SettlesAs, PeelsAs, entry_number};
 
+use byte_option::ByteOption;
 use solve_trace::{Entry, Trace};
-use store::{Equations, Terms};
+use store::{Equations, LentEnds, LentTerms, Terms};
 
 mod calls; // the calls by numbers
 
-// The lent arrays as nodes. Here and below C lends each array by itself, as it keeps them.
-fn terms_of(
-    n: usize,
-    kind: &[u8; 64],
-    symbol: &[u16; 64],
-    arity: &[u8; 64],
-    child: &[u8; 256],
-) -> Terms
-    ensures { result ≡ terms n kind.now symbol.now arity.now child.now }
-{
-    Terms {
-        count: n,
-        kind: *kind,
-        symbol: *symbol,
-        arity: *arity,
-        child: *child,
-    }
-}
-
-// Whether the arrays are well-shaped.
+// Whether the arrays are well-shaped. Here and below C lends each array by itself, as it keeps them.
 #[unsafe(no_mangle)]
 pub extern "C" fn ffi_shaped(
     n: usize,
@@ -54,13 +36,20 @@ pub extern "C" fn ffi_shaped(
 ) -> bool
     ensures { Tells (Shape (terms n kind.now symbol.now arity.now child.now) (equations m name.now left.now right.now)) result }
 {
+    let t = Terms {
+        count: n,
+        kind: *kind,
+        symbol: *symbol,
+        arity: *arity,
+        child: *child,
+    };
     let e = Equations {
         count: m,
         name: *name,
         left: *left,
         right: *right,
     };
-    store_shape::shaped(&terms_of(n, kind, symbol, arity, child), &e)
+    store_shape::shaped(&t, &e)
 }
 
 // How settling ended: how many entries the trace has, and whether in a clash, of which two nodes. C has no Option.
@@ -115,12 +104,17 @@ pub extern "C" fn ffi_settle(
     ensures { let g : Terms = terms n kind.now symbol.now arity.now child.now in
         SettlesAs g (unnamed m left.now right.now) table.new trace.new result }
 {
-    let t = terms_of(n, kind, symbol, arity, child);
-    let e = Equations {
+    let t = LentTerms {
+        count: n,
+        kind,
+        symbol,
+        arity,
+        child,
+    };
+    let e = LentEnds {
         count: m,
-        name: [0; 256],
-        left: *left,
-        right: *right,
+        left,
+        right,
     };
     let mut entries = Trace::new(Entry::default());
     let s = solve_closure::settle(&mut entries, &t, &e);
@@ -135,23 +129,12 @@ pub extern "C" fn ffi_settle(
     }
 }
 
-// A height as a number: 255 for none, since C has no Option.
-fn height_as_number(h: Option<u8>) -> u8
-    ensures { result ≡ height_number h }
+// The heights as bytes, 255 for none, since C has no Option.
+fn put_heights(height: &mut [u8; 64], heights: &[ByteOption; 64])
+    ensures { height.new ≡ map byte_of heights.now }
 {
-    h.unwrap_or(255)
-}
-
-// The heights as numbers. Only the first `n` are looked at, as a class has the number of one of its nodes: all 64 took as long as the peel
-// of 8 nodes.
-fn put_heights(height: &mut [u8; 64], heights: &[Option<u8>; 64], n: usize)
-    requires few { n ≤ 64 }
-    requires unused { (c : ℕ) → n ≤ c → c < 64 → height_at heights.now c ≡ None }
-    ensures { height.new ≡ map height_number heights.now }
-{
-    *height = [255; 64];
-    for (c, x) in heights[..n].iter().enumerate() {
-        height[c] = height_as_number(*x);
+    for (c, x) in heights.iter().enumerate() {
+        height[c] = x.byte();
     }
 }
 
@@ -170,7 +153,14 @@ pub extern "C" fn ffi_peel(
     requires formed { let g : Terms = terms n kind.now symbol.now arity.now child.now in Formed g }
     ensures { let g : Terms = terms n kind.now symbol.now arity.now child.now in PeelsAs g table.now height.new result }
 {
-    let h = solve_heights::peel(*table, &terms_of(n, kind, symbol, arity, child));
-    put_heights(height, &h.height, n);
+    let t = LentTerms {
+        count: n,
+        kind,
+        symbol,
+        arity,
+        child,
+    };
+    let h = solve_heights::peel(*table, &t);
+    put_heights(height, &h.height);
     h.left
 }

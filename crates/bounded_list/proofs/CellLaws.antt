@@ -1,10 +1,9 @@
 -- The cells of a bounded list, after each change of them.
-use Rattle.std.proofs.Common.{◌≡◌, ◌∙◌, ap, ap₂, List, ◌++◌, ℕ, ◌+◌, ◌-◌, ◌<◌, ◌≤◌, length, take, get_or, slice_set, arith}
+use Rattle.std.proofs.Common.{◌≡◌, ◌∙◌, ap, ap₂, List, ℕ, ◌+◌, ◌-◌, ◌<◌, ◌≤◌, length, take, get_or, slice_set, arith}
 use Rattle.std.specs.List.{remove, copy_within}
 use Rattle.std.proofs.lemmas.List.{places, same_lists, length-set, get_or-set_same, get_or-set_other}
 use Rattle.std.proofs.lemmas.Bool.{cases_eq}
 use mathlib.Core.Logic.{⊎_elim}
-use borrow.Rule.Slice.PartMut.{put_mid}
 use Rattle.bounded_list.specs.Bounded.{Filled}
 
 module _ {T : Type 0} {n : ℕ} where
@@ -33,14 +32,6 @@ module _ {T : Type 0} {n k : ℕ} {cells : List T} {b : T} (F : Filled n k cells
       (λ q. ap (λ j. get_or (slice_set cells (k - 1) b) j d) q ∙ get_or-set_same cells (k - 1) b d (omega (arith, F.fits, F.size)))
       (λ q. get_or-set_other cells (k - 1) i b d q ∙ filled_at F i d (omega (arith, q)) m)
       (cases_eq i (k - 1)))
-
-  pub extended : (xs : List T) → k + length xs ≤ n → Filled n (k + length xs) (put_mid k (k + length xs - k) cells xs) b
-  extended xs h =
-      filled (k + length xs) _ b h (grind (arith, places, F.size, h))
-      (λ i d l m. grind (arith, places, filled_at F i d, F.size, h, l, m))
-
-  pub extended_items : (xs : List T) → k + length xs ≤ n → take (k + length xs) (put_mid k (k + length xs - k) cells xs) ≡ take k cells ++ xs
-  extended_items xs h = same_lists _ _ (grind (arith, places, F.size, h)) (λ i d l. grind (arith, places, F.size, h, l))
 
   module _ (i : ℕ) (h : i < k) where
     pub moved : Filled n k (copy_within cells (i + 1) k i) b

@@ -102,15 +102,14 @@ impl<T: Copy, const N: usize> BoundedList<T, N> {
         }
     }
 
-    // More, at the end.
+    // More, at the end, one by one: by `copy_from_slice` a library for C wants memmove from outside.
     pub fn extend_from_slice(&mut self, xs: &[T])
         requires { length self.old.items + length xs.now ≤ N }
         ensures { self.new ≡ holding (self.old.items ++ xs.now) self.old.blank }
     {
-        let end = self.count + xs.len();
-        let cells = &mut self.cells[..];
-        cells[self.count..end].copy_from_slice(xs);
-        self.count = end;
+        for x in xs {
+            self.push(*x);
+        }
     }
 
     // The last one goes.

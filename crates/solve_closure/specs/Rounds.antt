@@ -1,9 +1,10 @@
 -- What a round and a run of rounds do to the table t and the trace es.
+--   settling  the table, and the two nodes of a clash
 --   Clashing  two functor nodes of one class and different labels: a clash, as the arrays have it
 --   Agree     two functor nodes have one label, and children of one class, place by place
 --   Closed    functor nodes of one class agree: the table keeps the rules of the closure
 --   Round     a round over all nodes; Rounds: rounds to the end
-use Rattle.std.specs.Prelude.{◌≡◌, List, ℕ, ◌<◌, length, Some, None}
+use Rattle.std.specs.Prelude.{◌≡◌, List, ℕ, ◌<◌, length, Option, Some, None}
 use Rattle.solve_classes.specs.Table.{class}
 use Rattle.store.specs.Views.{arity_at, child_at}
 use Rattle.store.specs.declared.Terms.{Terms}
@@ -11,6 +12,9 @@ use Rattle.solve_trace.specs.declared.Entry.{Entry}
 use Rattle.solve_trace.specs.Nodes.{Nodes, IsFunctor, Alike}
 use Rattle.solve_trace.specs.Steps.{Extends}
 use Rattle.solve_closure.specs.declared.Settling.{Settling}
+
+abbrev pub settling : List ℕ → Option (ℕ × ℕ) → Settling
+settling t clash = record { table = t; clash = clash }
 
 pub record Clashing (g : Terms) (t : List ℕ) (u v : ℕ) : Type 0 where
   pub left : IsFunctor g u

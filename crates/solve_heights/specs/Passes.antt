@@ -1,9 +1,10 @@
 -- The peel at work: passes over the nodes, upward and downward in turn. A node is released once its children's classes went, and its
 -- class goes with the last of its nodes.
+--   fresh_peeler  the peel before the nodes are counted
 --   Peeling   the peel between two visits
 --   Counted   the nodes of each class, and the classes, counted
 --   Released  what a pass in which no class goes leaves each node with: it is released, or stuck
-use Rattle.std.specs.Prelude.{◌≡◌, Bool, true, false, cond, List, ℕ, ◌+◌, ◌<◌, eqb, length, get_or, Some, None}
+use Rattle.std.specs.Prelude.{◌≡◌, Bool, true, false, cond, List, ℕ, ◌+◌, ◌<◌, eqb, length, replicate, get_or, Some, None}
 use Rattle.store.specs.declared.Terms.{Terms}
 use Rattle.solve_classes.specs.Table.{class, member_at, root, Table}
 use Rattle.base.specs.Sum.{sum_to}
@@ -19,6 +20,9 @@ pending_at p u = get_or p u false
 -- what node u adds to those that class c waits for
 abbrev pub wait_at : List ℕ → List Bool → ℕ → ℕ → ℕ
 wait_at t p c u = cond (eqb (class t u) c) (cond (pending_at p u) 1 0) 0
+
+abbrev pub fresh_peeler : Peeler
+fresh_peeler = record { went = 0; total = 0; waiting = replicate 64 0; pending = replicate 64 true; height = replicate 64 None }
 
 pub record Peeling (g : Terms) (t : List ℕ) (p : Peeler) : Type 0 where
   pub table : Table t

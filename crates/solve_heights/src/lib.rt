@@ -1,22 +1,24 @@
 // Heights of the classes of a table, by peeling: a class goes once the children of its functor nodes lie in classes that went.
 #![tactic(auto)]
 
-ghost use Rattle.std.specs.Prelude.{◌<◌};
+ghost use Rattle.std.specs.Prelude.{◌≡◌, ◌<◌};
 ghost use Rattle.base.specs.Tells.{Tells};
+ghost use Rattle.store.specs.Views.{lent_terms};
 ghost use Rattle.solve_classes.specs.Table.{Table};
 ghost use Rattle.solve_trace.specs.Nodes.{Formed};
 ghost use Rattle.solve_heights.specs.Peel.{Stuck, Peeled};
-ghost use Rattle.solve_heights.specs.Passes.{Peeling, Released};
+ghost use Rattle.solve_heights.specs.Passes.{fresh_peeler, Peeling, Released};
 
 pub mod passes;
 
+use byte_option::ByteOption;
 use passes::Visitor;
-use store::Terms;
+use store::LentTerms;
 
 // The heights of the classes, none for those that are left, and how many are left.
 #[derive(Clone, Copy)]
 pub struct Heights {
-    pub height: [Option<u8>; 64],
+    pub height: [ByteOption; 64],
     pub left: u8,
 }
 
@@ -29,43 +31,36 @@ struct Peeler {
     total: u8,
     waiting: [u8; 64],
     pending: [bool; 64],
-    height: [Option<u8>; 64],
+    height: [ByteOption; 64],
 }
 
 impl Peeler {
-    // No class went: counts the nodes of each class, and the classes.
-    fn start(table: &[u8; 64], t: &Terms) -> Peeler
+    // Counts the nodes of each class, and the classes, before one went. In place, since a Peeler that is handed back is copied twice.
+    fn count_nodes(&mut self, table: &[u8; 64], t: &LentTerms)
+        requires fresh { self.old ≡ fresh_peeler }
         requires table { Table table.now }
-        requires formed { Formed t.now }
-        ensures { Peeling t.now table.now result }
+        requires formed { Formed (lent_terms t.now) }
+        ensures { Peeling (lent_terms t.now) table.now self.new }
     {
-        let mut p = Peeler {
-            went: 0,
-            total: 0,
-            waiting: [0; 64],
-            pending: [true; 64],
-            height: [None; 64],
-        };
         for u in 0..t.count {
             let c = usize::from(table[u]);
-            p.waiting[c] += 1;
-            p.total += u8::from(c == u);
+            self.waiting[c] += 1;
+            self.total += u8::from(c == u);
         }
-        p
     }
 
     // Whether node `u` has a child in a class that is left.
-    fn stuck(&self, table: &[u8; 64], t: &Terms, u: usize) -> bool
-        requires peeling { Peeling t.now table.now self.now }
+    fn stuck(&self, table: &[u8; 64], t: &LentTerms, u: usize) -> bool
+        requires peeling { Peeling (lent_terms t.now) table.now self.now }
         requires known { u < t.now.count }
-        ensures { Tells (Stuck t.now table.now self.now.height u) result }
+        ensures { Tells (Stuck (lent_terms t.now) table.now self.now.height u) result }
     {
         if !t.is_functor(u) {
             return false;
         }
         for x in t.children(u) {
             let c = table[usize::from(*x)];
-            if self.height[usize::from(c)].is_none() {
+            if self.height[usize::from(c)].get().is_none() {
                 return true;
             }
         }
@@ -87,7 +82,7 @@ impl Visitor for Peeler {
     }
 
     // Releases node `u` unless it is stuck; its class goes with the last of its nodes.
-    fn visit(&mut self, table: &[u8; 64], t: &Terms, u: usize) {
+    fn visit(&mut self, table: &[u8; 64], t: &LentTerms, u: usize) {
         if !self.pending[u] || self.stuck(table, t, u) {
             return;
         }
@@ -95,18 +90,25 @@ impl Visitor for Peeler {
         self.pending[u] = false;
         self.waiting[c] -= 1;
         if self.waiting[c] == 0 {
-            self.height[c] = Some(self.went);
+            self.height[c] = ByteOption::some(self.went);
             self.went += 1;
         }
     }
 }
 
-pub fn peel(table: [u8; 64], t: &Terms) -> Heights
+pub fn peel(table: [u8; 64], t: &LentTerms) -> Heights
     requires table { Table table }
-    requires formed { Formed t.now }
-    ensures { Peeled t.now table result }
+    requires formed { Formed (lent_terms t.now) }
+    ensures { Peeled (lent_terms t.now) table result }
 {
-    let mut p = Peeler::start(&table, t);
+    let mut p = Peeler {
+        went: 0,
+        total: 0,
+        waiting: [0; 64],
+        pending: [true; 64],
+        height: [ByteOption::none(); 64],
+    };
+    p.count_nodes(&table, t);
     let total = p.total;
     passes::run(&mut p, &table, t, total, false);
     Heights {

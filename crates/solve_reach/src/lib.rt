@@ -3,6 +3,7 @@
 
 ghost use Rattle.std.specs.Prelude.{ℕ, ◌<◌, ◌≤◌, ◌≡◌};
 ghost use Rattle.base.specs.Tells.{Tells};
+ghost use Rattle.store.specs.Views.{lent_terms};
 ghost use Rattle.solve_classes.specs.Table.{Table};
 ghost use Rattle.solve_trace.specs.Nodes.{IsFunctor, Formed};
 ghost use Rattle.solve_heights.specs.Peel.{Peeled};
@@ -10,7 +11,7 @@ ghost use Rattle.solve_reach.specs.Search.{Source, Explored, Reached, Reaching, 
 
 use solve_heights::Heights;
 use solve_heights::passes::{self, Visitor};
-use store::Terms;
+use store::{LentTerms, Terms};
 
 // A step down into a class: the parent, the place, counted from 1, the child there, and a level that falls on the way up.
 #[derive(Clone, Copy, Default)]
@@ -44,10 +45,10 @@ struct Searcher {
 
 impl Searcher {
     // Whether steps down from node `p` count: it has some, and its class is the start's, or was reached.
-    fn is_source(&self, table: &[u8; 64], t: &Terms, p: usize) -> bool
-        requires reaching { Reaching t.now table.now self.now }
+    fn is_source(&self, table: &[u8; 64], t: &LentTerms, p: usize) -> bool
+        requires reaching { Reaching (lent_terms t.now) table.now self.now }
         requires known { p < t.now.count }
-        ensures { Tells (IsFunctor t.now p × Source table.now self.now.search self.now.start p) result }
+        ensures { Tells (IsFunctor (lent_terms t.now) p × Source table.now self.now.search self.now.start p) result }
     {
         let c = table[p];
         t.is_functor(p) && (c == table[self.start] || self.search.reached[usize::from(c)].is_some())
@@ -68,7 +69,7 @@ impl Visitor for Searcher {
     }
 
     // Looks at every child of node `p`, where steps down from it count. A class that is reached counts for the nodes visited after it.
-    fn visit(&mut self, table: &[u8; 64], t: &Terms, p: usize) {
+    fn visit(&mut self, table: &[u8; 64], t: &LentTerms, p: usize) {
         if !self.is_source(table, t, p) {
             return;
         }
@@ -103,7 +104,7 @@ pub fn reach(table: [u8; 64], t: &Terms, u: u8) -> Search
         start: usize::from(u),
         count: 0,
     };
-    passes::run(&mut w, &table, t, 64, true);
+    passes::run(&mut w, &table, &t.lend(), 64, true);
     w.search
 }
 
@@ -116,7 +117,7 @@ fn search_back(table: [u8; 64], heights: &Heights, t: &Terms, u: usize) -> Optio
     ensures { MayLeadBack t.now table u result }
 {
     let c = usize::from(table[u]);
-    if !t.is_functor(u) || heights.height[c].is_some() {
+    if !t.is_functor(u) || heights.height[c].get().is_some() {
         return None;
     }
     let search = reach(table, t, u as u8);

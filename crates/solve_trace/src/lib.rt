@@ -4,14 +4,14 @@
 ghost use Rattle.std.specs.Prelude.{◌≡◌, ℕ, ◌≤◌, ◌<◌, length, get_or};
 ghost use Rattle.graph.specs.Limits.{child_limit, equation_limit};
 ghost use Rattle.solve_classes.specs.Table.{class};
-ghost use Rattle.store.specs.Views.{arity_at, child_at};
+ghost use Rattle.store.specs.Views.{lent_terms, lent_ends, arity_at, child_at};
 ghost use Rattle.solve_trace.specs.declared.Entry.{Entry};
 ghost use Rattle.solve_trace.specs.declared.Entry.TheVariants.{Equation};
 ghost use Rattle.solve_trace.specs.Nodes.{EquationEnds};
 ghost use Rattle.solve_trace.specs.Steps.{TraceFits, Joins, Gives, PairsJoined, Places};
 
 use bounded_list::BoundedList;
-use store::{Equations, Terms};
+use store::{LentEnds, LentTerms};
 
 // Why two nodes are joined: the held equation at that place, or two nodes of one class and a place of their children, counted from 0.
 #[derive(Clone, Copy, PartialEq, Eq, Debug)]
@@ -67,15 +67,16 @@ fn join_pairs<F: Fn(usize) -> Entry>(
 }
 
 // The ends of the equations are joined.
-pub fn join_equations(mut table: [u8; 64], trace: &mut Trace, e: &Equations) -> [u8; 64]
+pub fn join_equations(mut table: [u8; 64], trace: &mut Trace, e: &LentEnds) -> [u8; 64]
     requires trace_fits { TraceFits table trace.old.items }
     requires few { e.now.count ≤ equation_limit }
-    requires by_index { (k : ℕ) → k < e.now.count → (get_or e.now.left k 0 < 64) × (get_or e.now.right k 0 < 64) }
-    ensures { PairsJoined (EquationEnds e.now) (λ (k : ℕ). get_or e.now.left k 0) (λ (k : ℕ). get_or e.now.right k 0) e.now.count
+    requires by_index { (k : ℕ) → k < e.now.count → (get_or e.now.left.now k 0 < 64) × (get_or e.now.right.now k 0 < 64) }
+    ensures { PairsJoined (EquationEnds (lent_ends e.now)) (λ (k : ℕ). get_or e.now.left.now k 0) (λ (k : ℕ). get_or e.now.right.now k 0) e.now.count
         table trace.old.items result trace.new.items }
 {
     let n = e.count;
-    join_pairs(&mut table, trace, &e.left[..n], &e.right[..n], |k| {
+    let (left, right) = (e.left, e.right);
+    join_pairs(&mut table, trace, &left[..n], &right[..n], |k| {
         Entry::Equation(k as u16)
     });
     table
@@ -86,14 +87,14 @@ pub fn join_equations(mut table: [u8; 64], trace: &mut Trace, e: &Equations) -> 
 pub fn join_children(
     mut table: [u8; 64],
     trace: &mut Trace,
-    t: &Terms,
+    t: &LentTerms,
     u: usize,
     v: usize,
 ) -> [u8; 64]
     requires trace_fits { TraceFits table trace.old.items }
-    requires u_bound { (u < 64) × (v < 64) × (arity_at t.now u ≤ child_limit) × (class table u ≡ class table v) }
-    requires by_index { (k : ℕ) → k < arity_at t.now u → (child_at t.now u k < 64) × (child_at t.now v k < 64) }
-    ensures { PairsJoined (Places t.now u v) (child_at t.now u) (child_at t.now v) (arity_at t.now u)
+    requires u_bound { (u < 64) × (v < 64) × (arity_at (lent_terms t.now) u ≤ child_limit) × (class table u ≡ class table v) }
+    requires by_index { (k : ℕ) → k < arity_at (lent_terms t.now) u → (child_at (lent_terms t.now) u k < 64) × (child_at (lent_terms t.now) v k < 64) }
+    ensures { PairsJoined (Places (lent_terms t.now) u v) (child_at (lent_terms t.now) u) (child_at (lent_terms t.now) v) (arity_at (lent_terms t.now) u)
         table trace.old.items result trace.new.items }
 {
     let n = usize::from(t.arity[u]);

@@ -1,5 +1,7 @@
 -- The arrays read as the lists of a state, and back.
 --   terms, equations            a value of the struct by its fields: how a contract over lent arrays names one
+--   lent_terms, lent_ends       the value that lent arrays make up; equations have no names then
+--   unnamed                     equations by their ends alone
 --   nodes_of, equations_of      the lists that the arrays hold
 --   state_from                  both, as a state
 --   pack_terms, pack_equations  the arrays that hold given lists, with zero in every unused place
@@ -13,12 +15,23 @@ use Rattle.graph.specs.State.{Node, variable, functor, Equation, equation_of, St
 use Rattle.base.specs.Tab.{tab}
 use Rattle.store.specs.declared.Terms.{Terms}
 use Rattle.store.specs.declared.Equations.{Equations}
+use Rattle.store.specs.declared.LentTerms.{LentTerms}
+use Rattle.store.specs.declared.LentEnds.{LentEnds}
 
 abbrev pub terms : ℕ → List ℕ → List ℕ → List ℕ → List ℕ → Terms
 terms n kind symbol arity child = record { count = n; kind = kind; symbol = symbol; arity = arity; child = child }
 
 abbrev pub equations : ℕ → List ℕ → List ℕ → List ℕ → Equations
 equations m name left right = record { count = m; name = name; left = left; right = right }
+
+abbrev pub unnamed : ℕ → List ℕ → List ℕ → Equations
+unnamed m left right = equations m (replicate equation_limit 0) left right
+
+abbrev pub lent_terms : LentTerms → Terms
+lent_terms l = terms l.count l.kind.now l.symbol.now l.arity.now l.child.now
+
+abbrev pub lent_ends : LentEnds → Equations
+lent_ends l = unnamed l.count l.left.now l.right.now
 
 abbrev pub fresh_terms : Terms
 fresh_terms = terms 0 (replicate node_limit 0) (replicate node_limit 0) (replicate node_limit 0) (replicate (child_limit * node_limit) 0)

@@ -6,9 +6,12 @@ ghost use Rattle.graph.specs.Limits.{node_limit, child_limit, equation_limit};
 ghost use Rattle.graph.specs.State.{Node};
 ghost use Rattle.graph.specs.Book.{all_below};
 ghost use Rattle.base.specs.Tab.{tab};
-ghost use Rattle.store.specs.Views.{fresh_terms, fresh_equations, kind_at, arity_at, child_at, children_at};
+ghost use Rattle.store.specs.Views.{fresh_terms, fresh_equations, lent_terms, lent_ends, unnamed, kind_at, arity_at, child_at, children_at};
 ghost use Rattle.store.specs.Operations.{Finds, Room, PutsNode, PutsEquation, Removes, with_variable, with_children, with_functor, closed};
 ghost use Rattle.store.specs.Heads.{Meets};
+ghost use Rattle.store.specs.declared.Terms.{Terms};
+
+use byte_option::ByteOption;
 
 // The declared nodes: the first `count` places of each array are used. Kind 0 is a variable, 1 a functor node. The children of
 // node u stand at places 4 u to 4 u + 3. Arrays side by side, as document 01 wants them. A kind is a number, a node a plain u8, and there is
@@ -34,6 +37,26 @@ pub struct Equations {
     pub right: [u8; 256],
 }
 
+// The same nodes, array by array, each lent: what the solver reads. Who keeps the arrays by themselves, as C does, has them not copied.
+// No two fields stand here as two arguments of C's stand side by side on the stack: the compiler would load both at once, and that load waits
+// for two stores (7 of 100 samples of a profile of solve at 8 nodes).
+#[derive(Clone, Copy)]
+pub struct LentTerms<'a> {
+    pub child: &'a [u8; 256],
+    pub count: usize,
+    pub kind: &'a [u8; 64],
+    pub symbol: &'a [u16; 64],
+    pub arity: &'a [u8; 64],
+}
+
+// Equations by their ends alone, lent in the same way: settling asks for no names.
+#[derive(Clone, Copy)]
+pub struct LentEnds<'a> {
+    pub right: &'a [u8; 256],
+    pub left: &'a [u8; 256],
+    pub count: usize,
+}
+
 // Whether each of the children is below n.
 pub fn all_below(children: &[u16], n: u16) -> bool
     ensures { result ≡ all_below n children.now }
@@ -42,17 +65,17 @@ pub fn all_below(children: &[u16], n: u16) -> bool
 }
 
 // The head of group `c` that the functor node `u` meets. Where there is none yet, `u` becomes it, and none is met; nor by a variable.
-pub fn visit(head: &mut [Option<u8>; 64], c: usize, t: &Terms, u: usize) -> Option<u8>
+pub fn visit(head: &mut [ByteOption; 64], c: usize, kind: &[u8; 64], u: usize) -> Option<u8>
     requires { (c < 64) × (u < node_limit) }
-    ensures { Meets head.old c t.now u head.new result }
+    ensures { (t : Terms) → t.kind ≡ kind.now → Meets head.old c t u head.new result }
 {
-    if !t.is_functor(u) {
+    if kind[u] != 1 {
         return None;
     }
-    match head[c] {
+    match head[c].get() {
         Some(v) => Some(v),
         None => {
-            head[c] = Some(u as u8);
+            head[c] = ByteOption::some(u as u8);
             None
         }
     }
@@ -87,7 +110,7 @@ impl Terms {
         requires { u < node_limit }
         ensures { result ≡ (kind_at self.now u == 1) }
     {
-        self.kind[u] == 1
+        self.lend().is_functor(u)
     }
 
     // The first n child places of node u.
@@ -95,8 +118,7 @@ impl Terms {
         requires { (u < node_limit) × (n ≤ child_limit) }
         ensures { result.now ≡ tab n (child_at self.now u) }
     {
-        let at = 4 * u;
-        &self.child[at..at + n]
+        self.lend().first_children(u, n)
     }
 
     // The children of node u.
@@ -104,7 +126,20 @@ impl Terms {
         requires { (u < node_limit) × (arity_at self.now u ≤ child_limit) }
         ensures { result.now ≡ children_at self.now u }
     {
-        self.first_children(u, usize::from(self.arity[u]))
+        self.lend().children(u)
+    }
+
+    // Array by array.
+    pub fn lend(&self) -> LentTerms<'_>
+        ensures { lent_terms result ≡ self.now }
+    {
+        LentTerms {
+            count: self.count,
+            kind: &self.kind,
+            symbol: &self.symbol,
+            arity: &self.arity,
+            child: &self.child,
+        }
     }
 
     #[tactic(auto, using(crate::proofs::PutNodeLaws::puts_variable))]
@@ -140,6 +175,34 @@ impl Terms {
     }
 }
 
+impl<'a> LentTerms<'a> {
+    // Whether node u is a functor node.
+    pub fn is_functor(&self, u: usize) -> bool
+        requires { u < node_limit }
+        ensures { result ≡ (kind_at (lent_terms self.now) u == 1) }
+    {
+        self.kind[u] == 1
+    }
+
+    // The first n child places of node u.
+    pub fn first_children(&self, u: usize, n: usize) -> &'a [u8]
+        requires { (u < node_limit) × (n ≤ child_limit) }
+        ensures { result.now ≡ tab n (child_at (lent_terms self.now) u) }
+    {
+        let at = 4 * u;
+        let child = self.child;
+        &child[at..at + n]
+    }
+
+    // The children of node u.
+    pub fn children(&self, u: usize) -> &'a [u8]
+        requires { (u < node_limit) × (arity_at (lent_terms self.now) u ≤ child_limit) }
+        ensures { result.now ≡ children_at (lent_terms self.now) u }
+    {
+        self.first_children(u, usize::from(self.arity[u]))
+    }
+}
+
 impl Equations {
     pub fn fresh() -> Equations
         ensures { result ≡ fresh_equations }
@@ -149,6 +212,17 @@ impl Equations {
             name: [0; 256],
             left: [0; 256],
             right: [0; 256],
+        }
+    }
+
+    // The ends.
+    pub fn ends(&self) -> LentEnds<'_>
+        ensures { lent_ends result ≡ unnamed self.now.count self.now.left self.now.right }
+    {
+        LentEnds {
+            count: self.count,
+            left: &self.left,
+            right: &self.right,
         }
     }
 

@@ -153,6 +153,10 @@ module _ (t : Terms) where
           go (first k l) z = cc
           go (further w k l) z = let q : get_or head c None ≡ Some v = l ∙ z in (k, H.earlier c v low q, H.functor c v low q)
 
+      -- so its number is one of the arrays', as w has it
+      pub met_place : {v w : ℕ} → m ≡ Some v → w ≡ v → u < 64 → w < 64
+      met_place z q l = omega (arith, (met _ z).1, q, l)
+
       -- one of its symbol decides
       pub fits_head : (v : ℕ) → m ≡ Some v → symbol_at t v ≡ symbol_at t u → ArityRule t u → FitsBefore t u (eqb (arity_at t v) (arity_at t u))
       fits_head v z s O =

@@ -10,6 +10,7 @@ ghost use Rattle.store.specs.Views.{nodes_of};
 ghost use Rattle.store_arity.specs.Rule.{first_nodes, ArityRule, FitsBefore};
 ghost use Rattle.store_arity.specs.SymbolHeads.{SymbolHeads};
 
+use byte_option::ByteOption;
 use store::Terms;
 
 // Whether each functor node of symbol f among the first n has k children. No way out in the middle, so that the compiler can take many
@@ -29,14 +30,14 @@ pub fn arity_fits(t: &Terms, n: usize, f: u16, k: u8) -> bool
 
 // Whether node u fits those before it, as declare would ask; these fit one another. `head` has a functor node for each remainder that a
 // symbol leaves. One of u's symbol decides; one of another symbol tells nothing, and each node before u is looked at.
-fn node_fits(head: &mut [Option<u8>; 64], t: &Terms, u: usize) -> bool
+fn node_fits(head: &mut [ByteOption; 64], t: &Terms, u: usize) -> bool
     requires { (u < node_limit) × SymbolHeads t.now head.old u × ArityRule t.now u }
     ensures symbol_heads { SymbolHeads t.now head.new (u + 1) }
     ensures fits_before { FitsBefore t.now u result }
 {
     let f = t.symbol[u];
     let k = t.arity[u];
-    let Some(v) = store::visit(head, usize::from(f % 64), t, u) else {
+    let Some(v) = store::visit(head, usize::from(f % 64), &t.kind, u) else {
         return true;
     };
     let w = usize::from(v);
@@ -52,7 +53,7 @@ pub fn one_arity(t: &Terms) -> bool
     requires { t.now.count ≤ node_limit }
     ensures { Tells (OneArity (nodes_of t.now)) result }
 {
-    let mut head = [None; 64];
+    let mut head = [ByteOption::none(); 64];
     for u in 0..t.count {
         if !node_fits(&mut head, t, u) {
             return false;

@@ -6,7 +6,7 @@ use Rattle.solve_closure.proofs.rounds.Goals.{then-is_some-via-then-is_some, the
 
 pub returns-then-is_some : goal.returns-then-is_some
 returns-then-is_some c =
-    rounds_end _ _ _ c.loop-trace.invariant c.round-o.ensures
+    rounds_end _ _ _ c.loop-trace.invariant c.round-clash.ensures
     (elim c.then-is_some.branch [
       | then-is_some-via-then-is_some w ↦ λ q. search rules
       | then-is_some-via-else-is_some+then-len-before w ↦ λ q. omega (arith, w.len.ensures, w.if-len-before, c.len-before.ensures)

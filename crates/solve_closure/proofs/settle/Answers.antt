@@ -10,4 +10,4 @@ join_equations-table-requires-clause-trace_fits c =
 
 pub returns-clause-settled : goal.returns-clause-settled
 returns-clause-settled c =
-    solved _ _ _ c.requires c.fresh.ensures (rw c.clear.ensures at c.join_equations-table.ensures) c.rounds.ensures
+    solved _ _ _ c.requires c.fresh.ensures (rw c.clear.ensures at c.join_equations-table.ensures) c.rounds-clash.ensures

@@ -4,10 +4,10 @@ use Rattle.solve_trace.proofs.StepLaws.{joins_ready}
 use Rattle.solve_closure.proofs.OfferLaws.{solved_offered}
 use Rattle.solve_closure.proofs.settle_offered.Goals as goal
 
-pub rounds-requires-clause-trace_fits : goal.rounds-requires-clause-trace_fits
-rounds-requires-clause-trace_fits c =
+pub rounds-clash-requires-clause-trace_fits : goal.rounds-clash-requires-clause-trace_fits
+rounds-clash-requires-clause-trace_fits c =
     let A = c.requires in
     joins_ready (omega (arith, A.left, A.formed.most)) (omega (arith, A.right, A.formed.most)) A.ready c.join.ensures
 
 pub returns-clause-settled : goal.returns-clause-settled
-returns-clause-settled c = solved_offered _ _ _ _ _ _ c.requires c.join.ensures c.rounds.ensures
+returns-clause-settled c = solved_offered _ _ _ _ _ _ c.requires c.join.ensures c.rounds-clash.ensures

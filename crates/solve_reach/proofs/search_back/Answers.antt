@@ -1,6 +1,7 @@
 -- `solve_reach::search_back` meets its contract.
 use mathlib.Core.Path.{sym, ◌∙◌}
-use Rattle.std.proofs.Common.{eq-eqb}
+use Rattle.byte_option.proofs.TableLaws.{got}
+use Rattle.std.proofs.Common.{rules, ◌<◌, length, eq-eqb}
 use Rattle.solve_reach.proofs.SearchLaws.{peel_took, never_back}
 use Rattle.solve_reach.proofs.search_back.Goals as goal
 use Rattle.solve_reach.proofs.search_back.Goals.{then-not-is_functor-via-then-not-is_functor, then-not-is_functor-via-else-not-is_functor+then-is_some}
@@ -10,7 +11,10 @@ returns-then-not-is_functor c =
     elim c.then-not-is_functor.branch [
       | then-not-is_functor-via-then-not-is_functor w ↦ λ s N E U b. cc (c.is_functor.ensures, eq-eqb _ _ U.kind, w.if-not-is_functor.true)
       | then-not-is_functor-via-else-not-is_functor+then-is_some w ↦
-          peel_took _ _ _ c.requires.table c.requires.formed _ c.requires.peeled _ c.from-c.ensures (sym w.is_some.ensures ∙ w.if-is_some.true)
+          let h = c.args.heights.now.height in
+          let b : c.from-c.result < length h = search rules in
+          peel_took _ _ _ c.requires.table c.requires.formed _ c.requires.peeled _ c.from-c.ensures
+          (rw (got h b w.index-heights-c.is w.get.ensures) (sym w.is_some.ensures ∙ w.if-is_some.true))
     ]
 
 pub returns-else-is_some-2 : goal.returns-else-is_some-2

@@ -1,7 +1,7 @@
 -- `solve_trace::join_children` meets its contract: what its closure gives for k is the k-th place of the two nodes.
 use Rattle.std.proofs.Common.{rules, ◌≡◌, ◌<◌, ℕ, length, get_or, arith}
 use Rattle.base.proofs.TabLaws.{tab_length, tab_get_d}
-use Rattle.store.specs.Views.{arity_at, child_at}
+use Rattle.store.specs.Views.{lent_terms, arity_at, child_at}
 use Rattle.solve_trace.specs.declared.Entry.TheVariants.{Children}
 use Rattle.solve_trace.specs.Steps.{Places}
 use Rattle.solve_trace.proofs.StepLaws.{pairs_only}
@@ -9,13 +9,13 @@ use Rattle.solve_trace.proofs.join_children.Goals as goal
 
 pub join_pairs-requires-clause-callable : goal.join_pairs-requires-clause-callable
 join_pairs-requires-clause-callable c = λ k h.
-    let l : length c.first_children.result.now ≡ arity_at c.args.t.now c.args.u = search (rules, tab_length) in
+    let l : length c.first_children.result.now ≡ arity_at (lent_terms c.args.t.now) c.args.u = search (rules, tab_length) in
     let b : k < 256 = omega (arith, h, l, c.requires.u_bound.2) in
     search rules
 
 pub returns : goal.returns
 returns c =
-    let g = c.args.t.now in
+    let g = lent_terms c.args.t.now in
     let u = c.args.u in
     let v = c.args.v in
     let m = c.requires.u_bound in

@@ -7,7 +7,7 @@ use borrow.Author.Rules.{rules}
 use Rattle.store_arity.proofs.one_arity.Goals as goal
 
 pub loop-u-init : goal.loop-u-init
-loop-u-init c = let t = c.args.t.now in (heads_none t, rule_none t)
+loop-u-init c = let t = c.args.t.now in rw c.none-head.ensures (heads_none t, rule_none t)
 
 pub returns-then-not-node_fits : goal.returns-then-not-node_fits
 returns-then-not-node_fits c =

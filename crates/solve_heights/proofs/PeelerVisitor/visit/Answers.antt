@@ -19,10 +19,15 @@ overflow_add-self c =
     let q = c.requires in
     record { fits = omega (arith, small _ _ _ _ q.known q.between) }
 
+pub some-requires : goal.some-requires
+some-requires c =
+    let q = c.requires in
+    omega (arith, small _ _ _ _ q.known q.between)
+
 pub returns-then-self-c-eq0-clause-between : goal.returns-then-self-c-eq0-clause-between
 returns-then-self-c-eq0-clause-between c =
     let q = c.requires in
-    release_last _ _ _ _ q.known q.between c.if-not-self-u.false (c.stuck.ensures.fails c.if-stuck.false) _ _ c.from-c.ensures refl c.if-self-c-eq0.true
+    rw c.some.ensures (release_last _ _ _ _ q.known q.between c.if-not-self-u.false (c.stuck.ensures.fails c.if-stuck.false) _ _ c.from-c.ensures refl c.if-self-c-eq0.true)
 
 pub returns-else-self-c-eq0-clause-between : goal.returns-else-self-c-eq0-clause-between
 returns-else-self-c-eq0-clause-between c =

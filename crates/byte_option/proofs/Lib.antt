@@ -1,0 +1,2 @@
+-- Laws of tables of options.
+pub mod TableLaws

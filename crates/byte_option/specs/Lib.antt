@@ -1,0 +1,2 @@
+-- An option as a byte, and back.
+pub mod Bytes
