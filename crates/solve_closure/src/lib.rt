@@ -28,7 +28,7 @@ fn round(table: &mut [u8; 64], trace: &mut Trace, t: &LentTerms) -> Option<(u8, 
 {
     let mut head = [ByteOption::none(); 64];
     for u in (0..t.count).rev() {
-        let Some(v) = store::visit(&mut head, usize::from(table[u]), t.kind, u) else {
+        let Some(v) = store::meet(&mut head, usize::from(table[u]), t.kind, u) else {
             continue;
         };
         let w = usize::from(v);

@@ -7,6 +7,7 @@
 --   EndLaws      where it ends
 --   CycleLaws    where each of finitely many nodes has one below it among them, one lies below itself
 --   OutcomeLaws  nothing left: a solution; something left: a cycle
+--   PairingLaws  two numbers in one
 pub mod OptionLaws
 pub mod CountLaws
 pub mod SummandLaws
@@ -15,3 +16,4 @@ pub mod StartLaws
 pub mod EndLaws
 pub mod CycleLaws
 pub mod OutcomeLaws
+pub mod PairingLaws

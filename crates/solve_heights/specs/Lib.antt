@@ -2,3 +2,4 @@
 pub mod Nodes
 pub mod Peel
 pub mod Passes
+pub mod Pairing

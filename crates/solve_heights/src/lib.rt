@@ -9,10 +9,11 @@ ghost use Rattle.solve_trace.specs.Nodes.{Formed};
 ghost use Rattle.solve_heights.specs.Peel.{Stuck, Peeled};
 ghost use Rattle.solve_heights.specs.Passes.{fresh_peeler, Peeling, Released};
 
-pub mod passes;
+pub mod lent_passes; // over nodes lent array by array
+pub mod passes; // over nodes lent whole
 
 use byte_option::ByteOption;
-use passes::Visitor;
+use lent_passes::LentVisitor;
 use store::LentTerms;
 
 // The heights of the classes, none for those that are left, and how many are left.
@@ -68,7 +69,7 @@ impl Peeler {
     }
 }
 
-impl Visitor for Peeler {
+impl LentVisitor for Peeler {
     ghost between = { Peeling };
 
     ghost counted = { λ p. p.went };
@@ -110,7 +111,7 @@ pub fn peel(table: [u8; 64], t: &LentTerms) -> Heights
     };
     p.count_nodes(&table, t);
     let total = p.total;
-    passes::run(&mut p, &table, t, total, false);
+    lent_passes::run(&mut p, &table, t, total, false);
     Heights {
         height: p.height,
         left: total - p.went,

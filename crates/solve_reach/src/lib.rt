@@ -10,7 +10,7 @@ ghost use Rattle.solve_heights.specs.Peel.{Peeled};
 ghost use Rattle.solve_reach.specs.Search.{Source, Explored, Reached, Reaching, MayLeadBack, MayCircle};
 
 use solve_heights::Heights;
-use solve_heights::passes::{self, Visitor};
+use solve_heights::lent_passes::{self, LentVisitor};
 use store::{LentTerms, Terms};
 
 // A step down into a class: the parent, the place, counted from 1, the child there, and a level that falls on the way up.
@@ -55,7 +55,7 @@ impl Searcher {
     }
 }
 
-impl Visitor for Searcher {
+impl LentVisitor for Searcher {
     ghost between = { Reaching };
 
     ghost counted = { λ w. w.count };
@@ -104,7 +104,7 @@ pub fn reach(table: [u8; 64], t: &Terms, u: u8) -> Search
         start: usize::from(u),
         count: 0,
     };
-    passes::run(&mut w, &table, &t.lend(), 64, true);
+    lent_passes::run(&mut w, &table, &t.lend(), 64, true);
     w.search
 }
 

@@ -65,7 +65,24 @@ pub fn all_below(children: &[u16], n: u16) -> bool
 }
 
 // The head of group `c` that the functor node `u` meets. Where there is none yet, `u` becomes it, and none is met; nor by a variable.
-pub fn visit(head: &mut [ByteOption; 64], c: usize, kind: &[u8; 64], u: usize) -> Option<u8>
+pub fn visit(head: &mut [Option<u8>; 64], c: usize, t: &Terms, u: usize) -> Option<u8>
+    requires { (c < 64) × (u < node_limit) }
+    ensures { Meets head.old c t.now u head.new result }
+{
+    if !t.is_functor(u) {
+        return None;
+    }
+    match head[c] {
+        Some(v) => Some(v),
+        None => {
+            head[c] = Some(u as u8);
+            None
+        }
+    }
+}
+
+// The same, from the kinds alone, with heads of one byte each. `visit` has a body of its own: a head of its table may be 255.
+pub fn meet(head: &mut [ByteOption; 64], c: usize, kind: &[u8; 64], u: usize) -> Option<u8>
     requires { (c < 64) × (u < node_limit) }
     ensures { (t : Terms) → t.kind ≡ kind.now → Meets head.old c t u head.new result }
 {

@@ -37,7 +37,7 @@ fn node_fits(head: &mut [ByteOption; 64], t: &Terms, u: usize) -> bool
 {
     let f = t.symbol[u];
     let k = t.arity[u];
-    let Some(v) = store::visit(head, usize::from(f % 64), &t.kind, u) else {
+    let Some(v) = store::meet(head, usize::from(f % 64), &t.kind, u) else {
         return true;
     };
     let w = usize::from(v);

@@ -9,8 +9,8 @@ use Rattle.solve_closure.proofs.round.Goals as goal
 pub loop-u-init : goal.loop-u-init
 loop-u-init c = rw c.none-head.ensures (passed_none _ _ _ _ c.requires.trace_fits (search rules) (λ i h. get_or-replicate 64 i None None h))
 
-pub visit-requires : goal.visit-requires
-visit-requires c =
+pub meet-requires : goal.meet-requires
+meet-requires c =
     let A = passed_visiting (c.loop-u.u - 1) c.loop-u.u (omega arith) c.requires.formed c.loop-u.invariant in
     (omega (arith, c.from.ensures, own _ _ _ _ _ A), omega (arith, c.requires.formed.most))
 
@@ -18,7 +18,7 @@ pub loop-u-preserved-in_default : goal.loop-u-preserved-in_default
 loop-u-preserved-in_default c =
     let A = passed_visiting (c.loop-u.u - 1) c.loop-u.u (omega arith) c.requires.formed c.loop-u.invariant in
     passed_more _ _ _ (c.loop-u.u - 1) _ (omega arith) c.loop-u.invariant
-    (visit_idle _ _ _ _ _ A c.from.ensures (c.visit.ensures (lent_terms c.args.t.now) refl) c.in_default.not-Some) c.requires.formed
+    (visit_idle _ _ _ _ _ A c.from.ensures (c.meet.ensures (lent_terms c.args.t.now) refl) c.in_default.not-Some) c.requires.formed
 
 pub bounds-t-w : goal.bounds-t-w
 bounds-t-w c =

@@ -4,14 +4,14 @@ use Rattle.store_arity.proofs.HeadLaws.{heads_more, met_place, fits_alone, fits_
 use Rattle.store_arity.proofs.node_fits.Goals as goal
 
 pub bounds-t-w : goal.bounds-t-w
-bounds-t-w c = let t = c.args.t.now in met_place t _ c.args.u c.requires.1 c.from.ensures (c.visit.ensures t refl) c.in-Some.is c.from-w.ensures c.requires.0
+bounds-t-w c = let t = c.args.t.now in met_place t _ c.args.u c.requires.1 c.from.ensures (c.meet.ensures t refl) c.in-Some.is c.from-w.ensures c.requires.0
 
 pub bounds-t-w-then-t-w : goal.bounds-t-w-then-t-w
-bounds-t-w-then-t-w c = let t = c.args.t.now in met_place t _ c.args.u c.requires.1 c.from.ensures (c.visit.ensures t refl) c.in-Some.is c.from-w.ensures c.requires.0
+bounds-t-w-then-t-w c = let t = c.args.t.now in met_place t _ c.args.u c.requires.1 c.from.ensures (c.meet.ensures t refl) c.in-Some.is c.from-w.ensures c.requires.0
 
 pub returns-in_default : goal.returns-in_default
 returns-in_default c =
-    let M = c.visit.ensures c.args.t.now refl in
+    let M = c.meet.ensures c.args.t.now refl in
     let t = c.args.t.now in
     record {
       symbol_heads = heads_more t _ c.args.u c.requires.1 _ c.from.ensures M;
@@ -20,7 +20,7 @@ returns-in_default c =
 
 pub returns-then-t-w : goal.returns-then-t-w
 returns-then-t-w c =
-    let M = c.visit.ensures c.args.t.now refl in
+    let M = c.meet.ensures c.args.t.now refl in
     let t = c.args.t.now in
     record {
       symbol_heads = heads_more t _ c.args.u c.requires.1 _ c.from.ensures M;
@@ -29,7 +29,7 @@ returns-then-t-w c =
 
 pub returns-else-t-w : goal.returns-else-t-w
 returns-else-t-w c =
-    let M = c.visit.ensures c.args.t.now refl in
+    let M = c.meet.ensures c.args.t.now refl in
     let t = c.args.t.now in
     record {
       symbol_heads = heads_more t _ c.args.u c.requires.1 _ c.from.ensures M;

@@ -1,9 +1,9 @@
--- `solve_heights::PeelerVisitor::visit` meets its contract.
+-- `solve_heights::PeelerLentVisitor::visit` meets its contract.
 use mathlib.Core.Path.{refl, ap}
 use Rattle.std.proofs.Common.{ℕ, get_or}
 use native.Mathlib.Omega.{arith}
 use Rattle.solve_heights.proofs.ReleaseLaws.{small, some_wait, fewer, release_more, release_last}
-use Rattle.solve_heights.proofs.PeelerVisitor.visit.Goals as goal
+use Rattle.solve_heights.proofs.PeelerLentVisitor.visit.Goals as goal
 
 pub overflow_sub-self : goal.overflow_sub-self
 overflow_sub-self c =

@@ -1,4 +1,4 @@
--- `solve_reach::SearcherVisitor::visit` meets its contract: the first j children are looked at.
+-- `solve_reach::SearcherLentVisitor::visit` meets its contract: the first j children are looked at.
 use mathlib.Core.Path.{sym, ◌∙◌, ap}
 use native.Mathlib.Omega.{arith}
 use Rattle.std.proofs.Common.{length}
@@ -7,7 +7,7 @@ use Rattle.store.proofs.ViewLaws.{children_length}
 use Rattle.solve_classes.specs.Table.{class}
 use Rattle.solve_heights.proofs.SummandLaws.{nth_child}
 use Rattle.solve_reach.proofs.ReachLaws.{reaching_small, expand_before, expand_now}
-use Rattle.solve_reach.proofs.SearcherVisitor.visit.Goals as goal
+use Rattle.solve_reach.proofs.SearcherLentVisitor.visit.Goals as goal
 
 pub bounds-table-from : goal.bounds-table-from
 bounds-table-from c =

@@ -1,0 +1,94 @@
+// Nodes lent whole, by a crate above the solver: heads as Options, and passes with a visitor of its own.
+#![tactic(auto)]
+
+ghost use Rattle.std.specs.Prelude.{◌≡◌, ◌≤◌, ◌<◌, get_or};
+ghost use Rattle.graph.specs.Limits.{node_limit};
+ghost use Rattle.store.specs.Views.{kind_at};
+
+use solve_heights::passes::{self, Visitor};
+use std::io;
+use store::Terms;
+
+// The number behind the last functor node that stands for its class.
+#[derive(Clone, Copy)]
+struct Last {
+    behind: u8,
+}
+
+impl Visitor for Last {
+    ghost between = { λ t table a. t.count ≤ node_limit };
+
+    ghost counted = { λ a. a.behind };
+
+    ghost closed = { λ t table a u. get_or table u 0 ≡ u → kind_at t u ≡ 1 → u < a.behind };
+
+    ghost fixed = { λ a. 0 };
+
+    fn counted(&self) -> u8 {
+        self.behind
+    }
+
+    fn visit(&mut self, table: &[u8; 64], t: &Terms, u: usize) {
+        if usize::from(table[u]) == u && t.is_functor(u) && usize::from(self.behind) <= u {
+            self.behind = u as u8 + 1;
+        }
+    }
+}
+
+// Nodes of which two are functor nodes: the last, and the one before.
+fn nodes(count: usize) -> Terms
+    requires { (2 ≤ count) × (count ≤ node_limit) }
+    ensures { result.count ≤ node_limit }
+{
+    let mut t = Terms::fresh();
+    t.kind[count - 2] = 1;
+    t.kind[count - 1] = 1;
+    t.count = count;
+    t
+}
+
+// The head that node `u` meets in group 63, and the head after that.
+fn met(rt: &impl Print, head: Option<u8>, t: &Terms, u: usize) -> io::Result<()>
+    requires { u < node_limit }
+{
+    let mut heads = [None; 64];
+    heads[63] = head;
+    match store::visit(&mut heads, 63, t, u) {
+        Some(v) => print!(rt; "node {u} meets {v}")?,
+        None => print!(rt; "node {u} meets none")?,
+    }
+    match heads[63] {
+        Some(v) => println!(rt; ", then the head is {v}"),
+        None => println!(rt; ", then there is no head"),
+    }
+}
+
+// Passes that end where nothing counts, and, of 64 nodes, where `most` are counted.
+fn passed(rt: &impl Print, table: &[u8; 64], t: &Terms, down: bool) -> io::Result<()>
+    requires { t.now.count ≤ node_limit }
+{
+    let mut last = Last { behind: 0 };
+    passes::run(&mut last, table, t, 64, down);
+    println!(rt;
+        "behind the last functor node of its class: {}",
+        last.behind
+    )
+}
+
+fn main(rt: HostRuntime) -> io::Result<()> {
+    let t = nodes(4);
+    met(&rt, None, &t, 1)?;
+    met(&rt, None, &t, 2)?;
+    met(&rt, Some(2), &t, 3)?;
+    met(&rt, Some(254), &t, 3)?;
+    met(&rt, Some(255), &t, 3)?;
+    let mut table = solve_classes::fresh();
+    passed(&rt, &table, &t, true)?;
+    passed(&rt, &table, &t, false)?;
+    let all = nodes(64);
+    passed(&rt, &table, &all, true)?;
+    passed(&rt, &table, &all, false)?;
+    table[3] = 2;
+    passed(&rt, &table, &t, true)?;
+    passed(&rt, &table, &t, false)
+}
