@@ -47,27 +47,27 @@ fn nodes(count: usize) -> Terms
     t
 }
 
-// The head that node `u` meets in group 63, and the head after that.
-fn met(rt: &impl Print, head: Option<u8>, t: &Terms, u: usize) -> io::Result<()>
-    requires { u < node_limit }
+// The head that node `u` meets in group `c`, and the head after that.
+fn met(rt: &impl Print, c: usize, head: Option<u8>, t: &Terms, u: usize) -> io::Result<()>
+    requires { (c < 64) × (u < node_limit) }
 {
     let mut heads = [None; 64];
-    heads[63] = head;
-    match store::visit(&mut heads, 63, t, u) {
-        Some(v) => print!(rt; "node {u} meets {v}")?,
-        None => print!(rt; "node {u} meets none")?,
+    heads[c] = head;
+    match store::visit(&mut heads, c, t, u) {
+        Some(v) => print!(rt; "group {c}: node {u} meets {v}")?,
+        None => print!(rt; "group {c}: node {u} meets none")?,
     }
-    match heads[63] {
+    match heads[c] {
         Some(v) => println!(rt; ", then the head is {v}"),
         None => println!(rt; ", then there is no head"),
     }
 }
 
-// Passes that end where nothing counts, and, of 64 nodes, where `most` are counted.
-fn passed(rt: &impl Print, table: &[u8; 64], t: &Terms, down: bool) -> io::Result<()>
+// Passes that end where nothing counts, and, of 64 nodes, where `most` are counted; none where they were counted before.
+fn passed(rt: &impl Print, table: &[u8; 64], t: &Terms, behind: u8, down: bool) -> io::Result<()>
     requires { t.now.count ≤ node_limit }
 {
-    let mut last = Last { behind: 0 };
+    let mut last = Last { behind };
     passes::run(&mut last, table, t, 64, down);
     println!(rt;
         "behind the last functor node of its class: {}",
@@ -75,20 +75,31 @@ fn passed(rt: &impl Print, table: &[u8; 64], t: &Terms, down: bool) -> io::Resul
     )
 }
 
+// No head, a head, and 255, which no head of one byte can be; a variable; the first and the last group and node.
+fn heads(rt: &impl Print, t: &Terms, all: &Terms) -> io::Result<()> {
+    met(rt, 63, None, t, 1)?;
+    met(rt, 63, Some(2), t, 1)?;
+    met(rt, 63, None, t, 2)?;
+    met(rt, 63, Some(2), t, 3)?;
+    met(rt, 63, Some(254), t, 3)?;
+    met(rt, 63, Some(255), t, 3)?;
+    met(rt, 0, None, all, 0)?;
+    met(rt, 0, None, all, 63)?;
+    met(rt, 63, None, all, 63)
+}
+
 fn main(rt: HostRuntime) -> io::Result<()> {
     let t = nodes(4);
-    met(&rt, None, &t, 1)?;
-    met(&rt, None, &t, 2)?;
-    met(&rt, Some(2), &t, 3)?;
-    met(&rt, Some(254), &t, 3)?;
-    met(&rt, Some(255), &t, 3)?;
-    let mut table = solve_classes::fresh();
-    passed(&rt, &table, &t, true)?;
-    passed(&rt, &table, &t, false)?;
     let all = nodes(64);
-    passed(&rt, &table, &all, true)?;
-    passed(&rt, &table, &all, false)?;
+    heads(&rt, &t, &all)?;
+    let mut table = solve_classes::fresh();
+    passed(&rt, &table, &t, 0, true)?;
+    passed(&rt, &table, &t, 0, false)?;
+    passed(&rt, &table, &all, 0, true)?;
+    passed(&rt, &table, &all, 0, false)?;
+    passed(&rt, &table, &all, 64, true)?;
+    passed(&rt, &table, &Terms::fresh(), 0, true)?;
     table[3] = 2;
-    passed(&rt, &table, &t, true)?;
-    passed(&rt, &table, &t, false)
+    passed(&rt, &table, &t, 0, true)?;
+    passed(&rt, &table, &t, 0, false)
 }
